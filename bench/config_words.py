@@ -41,9 +41,15 @@ KINDS = ("publishers", "subscriptions", "requesters", "listeners", "callers", "r
 TYPES = ("BOOL8", "BITSET8", "CHAR8", "UTF16", "INT8", "INT16", "INT32", "INT64", "UINT8", "UINT16", "UINT32", "UINT64", "TIMEDATE32",
          "TIMEDATE48", "TIMEDATE64")
 DEEP = "datasets nest deeper than 5 in it, or in a circle"
+GROUPS = [f"239.192.0.{it}" for it in range(33)]
+JOINED = ["224.0.0.0", "239.255.255.255", *GROUPS[:30]]
+JOINS = "".join(f"group {it}: a link joins it by `ip address add {it}/32 dev LINK autojoin`\n" for it in JOINED)
 # Long configurations that aren't taken: what is said of each.
 FAULTS = [
     (NODE + ONE * 17, "TooMany", "line 35, the file's root: slot has 17 members: 16 are the most"),
+    (NODE + f"groups = {GROUPS}\n" + ONE, "TooMany", "line 3, node: groups has 33 members: 32 are the most"),
+    (NODE + f"groups = {[*GROUPS, GROUPS[0]]}\n" + ONE, "TooMany",
+     "line 3, node: groups has 34 members: 32 are the most"),
     (GOOD + dataset(1001, *[8] * 257), "TooMany", "line 7, dataset 1001: element has 257 members: 256 are the most"),
     (GOOD + chain(6), "TooDeep", f"line 5, dataset 1000: {DEEP}"),
     (GOOD + dataset(1001, 8) + dataset(1002, "11, size = 8174"), "TooBig",
@@ -91,6 +97,7 @@ WORDS = [
      "warning: spare_control_ports[1] and spare_control_ports[2] both name port 18002 at 127.0.0.1\nwarning: slot 0 can hold nothing: each of its quotas is 0\n"),
     (f"slot = [{{ callers = 1 }}]\nnode = {{ address = '10.0.0.1', control_address = '127.0.0.1', spare_control_ports = {SPARE} }}\n",
      MEANT + f"slots that are added have, at 127.0.0.1, the ports {' '.join(map(str, SPARE))}\n"),
+    (NODE + f"groups = {JOINED}\nttl = 255\n" + ONE, MEANT.replace("\nslot", f"\n{JOINS}slot")),
     (GOOD + "[[telegram]]\ncom_id = 100\ndataset = 0\n", MEANT),
     (GOOD + dataset(1001, 8) + "[[telegram]]\ncom_id = 100\ndataset = 1001\n[[telegram]]\ncom_id = 101\ndataset = 1002\n"
      "[[telegram]]\ndataset = -1\ncom_id = 100\n[[telegram]]\ncom_id = 'x'\ndataset = '1001'\n",

@@ -6,6 +6,7 @@ import functools
 import os
 import pathlib
 import random
+import re
 import select
 import signal
 import socket
@@ -56,8 +57,10 @@ def has_ends(pid: int, config: str) -> bool:
             held.add(os.readlink(f"/proc/{pid}/fd/{number}"))
         except FileNotFoundError:
             pass
-    # A spare port is one at most.
-    named = 2 + sum(config.count(it) for it in ("\noperator_port", "\nspare_control_ports", "\ncontrol_port"))
+    # A spare port is one at most; a group has two ports.
+    groups = re.search(r"^groups = \[(.*)\]", config, re.MULTILINE)
+    lines = sum(config.count(it) for it in ("\noperator_port", "\nspare_control_ports", "\ncontrol_port"))
+    named = 2 + (groups[1].count('"') if groups else 0) + lines
     return len(held & open_ends()) >= named
 
 

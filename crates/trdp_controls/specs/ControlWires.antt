@@ -10,7 +10,8 @@ use Rattle.trdp_lines.specs.Paths.{HandsInNext, PathState, SaysTo, left_at, spea
 use Rattle.trdp_lines.specs.declared.path_fault.LostText.{LostText}
 use Rattle.trdp_daemon.specs.declared.fault.WireFault.{WireFault}
 use Rattle.trdp_daemon.specs.declared.port.Port.{Port}
-use Rattle.trdp_daemon.specs.declared.port.Port.TheVariants.{Pd, Md, Operator, Control}
+use Rattle.trdp_daemon.specs.declared.port.Port.TheVariants.{Pd, Md, PdGroup, MdGroup}
+use Rattle.trdp_daemon.specs.declared.port.Port.TheVariants.{Operator, Control}
 use Rattle.trdp_controls.specs.declared.control_wire.ControlWire.{ControlWire}
 use Rattle.trdp_daemon.specs.Told.{TellsMore, Give, Taking, give_of, taking_of}
 use Rattle.trdp_controls.specs.Places.{number_of_place, place_of_number}
@@ -150,6 +151,8 @@ abbrev pub has_ended : {N C : Type 0} → (ended_in : N → Port → Place → B
     → ControlWire N C → Port → Place → Bool
 has_ended ended_in wire Pd place = ended_in wire.network Pd place
 has_ended ended_in wire Md place = ended_in wire.network Md place
+has_ended ended_in wire (PdGroup group) place = ended_in wire.network (PdGroup group) place
+has_ended ended_in wire (MdGroup group) place = ended_in wire.network (MdGroup group) place
 has_ended ended_in wire Operator place = false
 has_ended ended_in wire (Control slot) place =
     has_ended_at (control_at wire.controls.items slot) place
@@ -181,6 +184,16 @@ TakesAtPort takings_in gives_in ended_in calls_of has_news old new Md room resul
     TakesOverNetwork (takings_in old.network) (takings_in new.network) Md
     (ended_in new.network Md) result room_then
     × (new.operator ≡ old.operator) × (new.controls.items ≡ old.controls.items)
+TakesAtPort takings_in gives_in ended_in calls_of has_news old new (PdGroup group) room result
+    room_then =
+    TakesOverNetwork (takings_in old.network) (takings_in new.network) (PdGroup group)
+    (ended_in new.network (PdGroup group)) result room_then
+    × (new.operator ≡ old.operator) × (new.controls.items ≡ old.controls.items)
+TakesAtPort takings_in gives_in ended_in calls_of has_news old new (MdGroup group) room result
+    room_then =
+    TakesOverNetwork (takings_in old.network) (takings_in new.network) (MdGroup group)
+    (ended_in new.network (MdGroup group)) result room_then
+    × (new.operator ≡ old.operator) × (new.controls.items ≡ old.controls.items)
 TakesAtPort takings_in gives_in ended_in calls_of has_news old new Operator room result room_then =
     IfNews has_news old new result
     (TakesAtOperator calls_of old.operator new.operator room result room_then
@@ -201,6 +214,14 @@ GivesAtPort gives_in calls_of old new Pd to bytes result =
     × (new.operator ≡ old.operator) × (new.controls.items ≡ old.controls.items)
 GivesAtPort gives_in calls_of old new Md to bytes result =
     GivesOverNetwork (gives_in old.network) (gives_in new.network) Md to bytes result old.failures
+    × (new.operator ≡ old.operator) × (new.controls.items ≡ old.controls.items)
+GivesAtPort gives_in calls_of old new (PdGroup group) to bytes result =
+    GivesOverNetwork (gives_in old.network) (gives_in new.network) (PdGroup group) to bytes result
+    old.failures
+    × (new.operator ≡ old.operator) × (new.controls.items ≡ old.controls.items)
+GivesAtPort gives_in calls_of old new (MdGroup group) to bytes result =
+    GivesOverNetwork (gives_in old.network) (gives_in new.network) (MdGroup group) to bytes result
+    old.failures
     × (new.operator ≡ old.operator) × (new.controls.items ≡ old.controls.items)
 GivesAtPort gives_in calls_of old new Operator to bytes result =
     GivesAtOperator calls_of old.operator new.operator to bytes result old.failures

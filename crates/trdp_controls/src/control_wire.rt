@@ -241,7 +241,9 @@ impl<N: Wire, C: Connections> Wire for ControlWire<N, C> {
             room.new }
     {
         match port {
-            Port::Pd | Port::Md => self.take_telegram(port, room),
+            Port::Pd | Port::Md | Port::PdGroup(_) | Port::MdGroup(_) => {
+                self.take_telegram(port, room)
+            }
             _ if !self.network.has_news(port) => Ok(None),
             Port::Operator => self.take_operator(room),
             Port::Control(slot) => self.take_control(slot, room),
@@ -253,7 +255,9 @@ impl<N: Wire, C: Connections> Wire for ControlWire<N, C> {
         ensures gives { GivesAtPort N.gives C.calls self.old self.new port to bytes.now result }
     {
         match port {
-            Port::Pd | Port::Md => self.give_telegram(port, to, bytes),
+            Port::Pd | Port::Md | Port::PdGroup(_) | Port::MdGroup(_) => {
+                self.give_telegram(port, to, bytes)
+            }
             Port::Operator => self.give_operator(to, bytes),
             Port::Control(slot) => self.give_control(slot, to, bytes),
         }
@@ -278,7 +282,9 @@ impl<N: Wire, C: Connections> Wire for ControlWire<N, C> {
         ensures { result ≡ has_ended N.ended self.now port place }
     {
         match port {
-            Port::Pd | Port::Md => self.network.has_ended(port, place),
+            Port::Pd | Port::Md | Port::PdGroup(_) | Port::MdGroup(_) => {
+                self.network.has_ended(port, place)
+            }
             Port::Operator => false,
             Port::Control(slot) => has_ended_at(&self.controls, usize::from(slot), place),
         }

@@ -13,7 +13,7 @@ use crate::control_wire::ControlWire;
 use crate::folder::Folder;
 use crate::listen_fault::ListenFault;
 use std::alloc::Global;
-use trdp_daemon::{Port, Wire, control_number, socket_of};
+use trdp_daemon::{Groups, Port, Wire, control_number};
 use trdp_dataset::NodeConfig;
 use trdp_lines::{Connections, ControlPath, OperatorPath};
 
@@ -46,7 +46,8 @@ impl<N: Wire + Drop, C: Connections + Drop> ControlWire<N, C> {
         ensures network { IfOk result (λ wire. wire.network ≡ network) }
         ensures failures { IfOk result (λ wire. wire.failures ≡ 0) }
     {
-        let operator = operator_path(alloc, folder, config.operator_port())?;
+        let socket = Groups::of(config).socket_of(Port::Operator);
+        let operator = operator_path(alloc, folder, config.operator_port(), socket)?;
         let controls = control_paths(alloc, folder, config)?;
         Ok(ControlWire::new(network, operator, controls))
     }
@@ -60,13 +61,14 @@ fn operator_path<C: Connections + Drop, F: Folder<C>>(
     alloc: Global,
     folder: &mut F,
     number: u16,
+    socket: usize,
 ) -> Result<Option<OperatorPath<C>>, ListenFault>
     ensures listens { ListensInTurn (file_unless_0 number) (fault_of result)
         (F.listenings folder.old) (F.listenings folder.new) }
     ensures number { IfOk result (λ path. number_of_operator C.file_number path
         ≡ number_unless_0 number) }
 {
-    match connections_at(folder, number, socket_of(Port::Operator)) {
+    match connections_at(folder, number, socket) {
         Ok(Some(connections)) => match OperatorPath::new(alloc, connections) {
             Ok(path) => Ok(Some(path)),
             Err(_) => Err(ListenFault::OutOfMemory),
@@ -90,17 +92,19 @@ fn control_paths<C: Connections + Drop, F: Folder<C>>(
     ensures numbers { IfOk result (λ paths. numbers_of C.file_number paths.items
         ≡ map number_unless_0 (control_numbers config.now)) }
 {
+    let groups = Groups::of(config);
     let mut paths = Vec::new(alloc);
     for slot in 0..config.slots() + config.spare_control_ports() {
         let number = control_number(config, slot).unwrap_or(0);
-        push_path(alloc, folder, number, socket_of_slot(slot), &mut paths)?;
+        let socket = socket_of_slot(&groups, slot);
+        push_path(alloc, folder, number, socket, &mut paths)?;
     }
     Ok(paths)
 }
 
 /// The number of the socket that the control port of a slot would have.
-fn socket_of_slot(slot: usize) -> usize {
-    socket_of(Port::Control(u16::try_from(slot).unwrap_or(u16::MAX)))
+fn socket_of_slot(groups: &Groups, slot: usize) -> usize {
+    groups.socket_of(Port::Control(u16::try_from(slot).unwrap_or(u16::MAX)))
 }
 
 /// Adds the path of one more control port: None where its number is 0.

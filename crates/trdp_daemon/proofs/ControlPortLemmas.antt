@@ -1,9 +1,10 @@
 -- The control ports of slots, one after another.
--- For `ports_of`, `push_control`, `control_number` and `ask_for_ports`, and for `EachPortLemmas`.
+-- For `ports_of`, `push_control`, `control_number` and `ask_for_ports`, and for `EachPortLemmas` and
+-- `GroupPortLemmas`.
 -- By a loop's invariant: the ports so far, and one for each number of those left.
 use Rattle.std.proofs.Common.{◌≡◌, suc, ◌+◌, ◌<◌, ℕ, List, [], ◌∷◌, ◌++◌, Some, None}
 use Rattle.std.proofs.Common.{refl, sym, ◌∙◌, ap, arith, append_assoc, append-nil, length, drop}
-use Rattle.std.proofs.Common.{zero, map, Option}
+use Rattle.std.proofs.Common.{zero, map, get_or, Option}
 use Rattle.std.specs.Prelude.{slice_get, unwrap_or}
 use Rattle.std.specs.Option.{option_map}
 use Rattle.std.proofs.lemmas.List.{drop_all}
@@ -11,8 +12,9 @@ use Rattle.std.proofs.lemmas.Option.{slice_get-get_or}
 use Rattle.trdp_dataset.specs.Configs.{SlotModel, ConfigModel}
 use Rattle.trdp_outbox.proofs.SlotOrderLemmas.Rising.{drop_get}
 use Rattle.trdp_daemon.specs.declared.port.Port.{Port}
-use Rattle.trdp_daemon.specs.declared.port.Port.TheVariants.{Control, Pd, Md, Operator}
+use Rattle.trdp_daemon.specs.declared.port.Port.TheVariants.{Control, Operator}
 use Rattle.trdp_daemon.specs.Ports.{port_unless_0, control_numbers, control_ports, ports_of}
+use Rattle.trdp_daemon.specs.Ports.{network_ports}
 
 ports_cons : (i number : ℕ) (numbers : List ℕ) → control_ports i (number ∷ numbers)
     ≡ port_unless_0 number (Control i) ++ control_ports (i + 1) numbers
@@ -38,6 +40,12 @@ ports_next numbers i number before after here more =
     ap (λ l. l ++ rest) more ∙ append_assoc before (port_unless_0 number (Control i)) rest
     ∙ ap (λ l. before ++ l) (sym (ap (control_ports i) (drop_get numbers i number here)
     ∙ ports_cons i number (drop (i + 1) numbers)))
+
+-- the next of some numbers, and those behind it
+pub number_next : (numbers : List ℕ) (i : ℕ) → i < length numbers
+    → drop i numbers ≡ get_or numbers i 0 ∷ drop (i + 1) numbers
+number_next numbers i below =
+    drop_get numbers i (get_or numbers i 0) (slice_get-get_or numbers i 0 below)
 
 -- below how many there are there is one
 pub no_slot : (numbers : List ℕ) (i : ℕ)
@@ -71,12 +79,15 @@ numbers_count (slot ∷ slots) spare = omega (arith, numbers_count slots spare)
 
 -- before the first slot
 pub ports_start : (config : ConfigModel) (items : List Port) (number : ℕ)
-    → number ≡ config.operator_port → items ≡ Pd ∷ Md ∷ port_unless_0 number Operator
+    → number ≡ config.operator_port
+    → items ≡ network_ports config ++ port_unless_0 number Operator
     → items ++ control_ports 0 (drop 0 (control_numbers config)) ≡ ports_of config
 unfolding ports_of
 ports_start config items number is start =
-    ap (λ l. l ++ control_ports 0 (control_numbers config)) start
-    ∙ ap (λ n. Pd ∷ Md ∷ (port_unless_0 n Operator ++ control_ports 0 (control_numbers config))) is
+    let controls = control_ports 0 (control_numbers config) in
+    ap (λ l. l ++ controls) start
+    ∙ append_assoc (network_ports config) (port_unless_0 number Operator) controls
+    ∙ ap (λ n. network_ports config ++ (port_unless_0 n Operator ++ controls)) is
 
 -- the port of one slot, and those of the slots behind it
 pub control_next : (numbers : List ℕ) (i : ℕ) → i < length numbers

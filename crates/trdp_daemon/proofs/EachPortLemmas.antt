@@ -12,9 +12,11 @@ use Rattle.trdp_dataset.specs.Configs.{ConfigModel}
 use Rattle.trdp_model.specs.NodeModels.{NodeModel}
 use Rattle.trdp_model.specs.Slots.{empty_slot}
 use Rattle.trdp_daemon.specs.declared.port.Port.{Port}
-use Rattle.trdp_daemon.specs.declared.port.Port.TheVariants.{Pd, Md, Operator, Control}
+use Rattle.trdp_daemon.specs.declared.port.Port.TheVariants.{Pd, Md, PdGroup, MdGroup}
+use Rattle.trdp_daemon.specs.declared.port.Port.TheVariants.{Operator, Control}
 use Rattle.trdp_daemon.specs.Effects.{ServiceState}
 use Rattle.trdp_daemon.specs.Ports.{port_unless_0, control_numbers, control_ports, ports_of}
+use Rattle.trdp_daemon.specs.Ports.{group_ports, line_ports, network_ports}
 use Rattle.trdp_daemon.specs.Turns.{Visit, visit_effect, Turn, turn_effect, moment_effect, is_there}
 use Rattle.trdp_daemon.specs.Turns.{port_and_room, with_room, TakesFirst, TakesAt, TakesAtEach}
 use Rattle.trdp_daemon.specs.Turns.{AllTakeAt, opened_service}
@@ -31,6 +33,8 @@ there_kept : (old new : NodeModel) (port : Port) → length old.slots ≤ length
     → is_there old port ≡ true → is_there new port ≡ true
 there_kept old new Pd same there = refl
 there_kept old new Md same there = refl
+there_kept old new (PdGroup group) same there = refl
+there_kept old new (MdGroup group) same there = refl
 there_kept old new Operator same there = refl
 there_kept old new (Control slot) more there = grind (arith, nat_tests)
 
@@ -85,21 +89,23 @@ controls_there node s (number ∷ numbers) within =
     (unless_there node number (Control s) (lt-ltb s (length node.slots) below))
     (controls_there node (suc s) numbers fewer)
 
+-- and each of a group
+groups_there : (node : NodeModel) (groups : List ℕ) → AllThere node (group_ports groups)
+groups_there node [] = tt
+groups_there node (group ∷ groups) = (refl, (refl, groups_there node groups))
+
 ports_there : (config : ConfigModel) (node : NodeModel)
     → length (control_numbers config) ≤ length node.slots → AllThere node (ports_of config)
 unfolding ports_of
 ports_there config node enough =
     let within : 0 + length (control_numbers config) ≤ length node.slots =
-    omega (arith, enough) in (
-      refl,
-      (
-        refl,
-        both_there node (port_unless_0 config.operator_port Operator)
-            (control_ports 0 (control_numbers config))
-            (unless_there node config.operator_port Operator refl)
-            (controls_there node 0 (control_numbers config) within),
-      ),
-    )
+    omega (arith, enough) in
+    both_there node (network_ports config) (line_ports config)
+    (refl, (refl, groups_there node config.groups))
+    (both_there node (port_unless_0 config.operator_port Operator)
+    (control_ports 0 (control_numbers config))
+    (unless_there node config.operator_port Operator refl)
+    (controls_there node 0 (control_numbers config) within))
 
 pub turns_take_each : (config : ConfigModel) (s : ServiceState) (turns : List Turn)
     → length (control_numbers config) ≤ length s.node.slots → AllTakeAt (ports_of config) s turns

@@ -15,7 +15,8 @@ use Rattle.trdp_model.specs.Records.{Content, Answers, DoneIs, RecordModel, labe
 use Rattle.trdp_model.specs.Slots.{SlotState}
 use Rattle.trdp_daemon.specs.declared.contact.Contact.{Contact}
 use Rattle.trdp_daemon.specs.declared.port.Port.{Port}
-use Rattle.trdp_daemon.specs.declared.port.Port.TheVariants.{Pd, Md, Operator, Control}
+use Rattle.trdp_daemon.specs.declared.port.Port.TheVariants.{Pd, Md, PdGroup, MdGroup}
+use Rattle.trdp_daemon.specs.declared.port.Port.TheVariants.{Operator, Control}
 use Rattle.trdp_daemon.specs.Effects.{ServiceState, Loss, LineLost, EventLost, TextsLost, silence}
 use Rattle.trdp_daemon.specs.Effects.{both, contact_of, content_telling, event_effect}
 use Rattle.trdp_daemon.specs.Effects.{event_records, is_first_lost, later_marks, may_take_memory}
@@ -107,5 +108,7 @@ pub ended_silent : (s : ServiceState) (port : Port) (loss : Loss)
 unfolding ended_effect
 ended_silent s Pd loss = refl
 ended_silent s Md loss = refl
+ended_silent s (PdGroup group) loss = refl
+ended_silent s (MdGroup group) loss = refl
 ended_silent s Operator loss = refl
 ended_silent s (Control slot) loss = end_silent s slot loss

@@ -4,7 +4,8 @@
 use Rattle.std.proofs.Common.{◌≡◌, ℕ, List, [], Option, refl}
 use Rattle.trdp_daemon.specs.declared.link.Link.{Link}
 use Rattle.trdp_daemon.specs.declared.port.Port.{Port}
-use Rattle.trdp_daemon.specs.declared.port.Port.TheVariants.{Pd, Md, Operator, Control}
+use Rattle.trdp_daemon.specs.declared.port.Port.TheVariants.{Pd, Md, PdGroup, MdGroup}
+use Rattle.trdp_daemon.specs.declared.port.Port.TheVariants.{Operator, Control}
 use Rattle.trdp_daemon.specs.declared.service.Service.{Service}
 use Rattle.trdp_daemon.specs.Told.{Taking, Give}
 use Rattle.trdp_daemon.specs.Effects.{TextsLost}
@@ -32,6 +33,10 @@ quiet_else takings_in gives_in a s Pd other =
     record { loss = TextsLost []; comes = nothing_comes takings_in gives_in s a }
 quiet_else takings_in gives_in a s Md other =
     record { loss = TextsLost []; comes = nothing_comes takings_in gives_in s a }
+quiet_else takings_in gives_in a s (PdGroup group) other =
+    record { loss = TextsLost []; comes = nothing_comes takings_in gives_in s a }
+quiet_else takings_in gives_in a s (MdGroup group) other =
+    record { loss = TextsLost []; comes = nothing_comes takings_in gives_in s a }
 quiet_else takings_in gives_in a s Operator other =
     record { loss = TextsLost []; comes = nothing_comes takings_in gives_in s a }
 quiet_else takings_in gives_in a s (Control slot) other = absurd (other slot refl)
@@ -54,6 +59,10 @@ unfolding ended_effect
 ended_else takings_in gives_in a s Pd other =
     record { loss = TextsLost []; comes = nothing_comes takings_in gives_in s a }
 ended_else takings_in gives_in a s Md other =
+    record { loss = TextsLost []; comes = nothing_comes takings_in gives_in s a }
+ended_else takings_in gives_in a s (PdGroup group) other =
+    record { loss = TextsLost []; comes = nothing_comes takings_in gives_in s a }
+ended_else takings_in gives_in a s (MdGroup group) other =
     record { loss = TextsLost []; comes = nothing_comes takings_in gives_in s a }
 ended_else takings_in gives_in a s Operator other =
     record { loss = TextsLost []; comes = nothing_comes takings_in gives_in s a }

@@ -14,6 +14,7 @@ pub mod RestLemmas
 pub mod SocketLemmas
 pub mod SocketWireLemmas
 pub mod ControlPortLemmas
+pub mod GroupPortLemmas
 pub mod CountedLemmas
 pub mod GiveRowLemmas
 pub mod LossLemmas

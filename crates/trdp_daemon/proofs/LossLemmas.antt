@@ -12,7 +12,8 @@ use Rattle.trdp_script.specs.PortLines.{OperatorSays, Orders, Asks}
 use Rattle.trdp_script.specs.PortLines.{control_line_of, operator_line_of}
 use Rattle.trdp_script.specs.RecordText.{text_of_record}
 use Rattle.trdp_daemon.specs.declared.port.Port.{Port}
-use Rattle.trdp_daemon.specs.declared.port.Port.TheVariants.{Pd, Md, Operator, Control}
+use Rattle.trdp_daemon.specs.declared.port.Port.TheVariants.{Pd, Md, PdGroup, MdGroup}
+use Rattle.trdp_daemon.specs.declared.port.Port.TheVariants.{Operator, Control}
 use Rattle.trdp_daemon.specs.declared.contact.Contact.{Contact}
 use Rattle.trdp_daemon.specs.declared.totals.Totals.{Totals}
 use Rattle.trdp_daemon.specs.Told.{Arrived, Failed, Nothing, Came}
@@ -27,7 +28,8 @@ use Rattle.trdp_daemon.specs.Visits.{operator_effect, heard_from, control_event}
 use Rattle.trdp_daemon.specs.Visits.{came_effect, control_effect, datagram_effect, lives_still}
 use Rattle.trdp_daemon.specs.Visits.{taking_effect}
 use Rattle.trdp_daemon.specs.Turns.{Visit, visit_effect, visits_effect, Turn, turn_effect}
-use Rattle.trdp_daemon.specs.Turns.{begun, moment_effect, turns_effect, moment_of, unlost, unlost_visit}
+use Rattle.trdp_daemon.specs.Turns.{begun, moment_effect, turns_effect, moment_of}
+use Rattle.trdp_daemon.specs.Turns.{unlost, unlost_visit}
 use Rattle.trdp_daemon.proofs.TurnLemmas.{effect_of}
 
 text_kept : (slot : ℕ) (to : Option Place) (lost : Bool) (text : List ℕ)
@@ -131,6 +133,8 @@ datagram_kept : (s : ServiceState) (totals : Totals) (port : Port) (from : Place
 unfolding datagram_effect
 datagram_kept s totals Pd from bytes loss none = event_kept s _ loss none
 datagram_kept s totals Md from bytes loss none = event_kept s _ loss none
+datagram_kept s totals (PdGroup group) from bytes loss none = event_kept s _ loss none
+datagram_kept s totals (MdGroup group) from bytes loss none = event_kept s _ loss none
 datagram_kept s totals Operator from bytes loss none =
     operator_kept s from totals (operator_line_of bytes) loss none
 datagram_kept s totals (Control slot) from bytes loss none =
@@ -154,6 +158,8 @@ quiet_kept : (s : ServiceState) (port : Port) (loss : Loss)
 unfolding quiet_effect
 quiet_kept s Pd loss none = refl
 quiet_kept s Md loss none = refl
+quiet_kept s (PdGroup group) loss none = refl
+quiet_kept s (MdGroup group) loss none = refl
 quiet_kept s Operator loss none = refl
 quiet_kept s (Control slot) loss none = silence_kept (is_silent s slot) s slot loss none
 
@@ -163,6 +169,8 @@ ended_kept : (s : ServiceState) (port : Port) (loss : Loss)
 unfolding ended_effect
 ended_kept s Pd loss none = refl
 ended_kept s Md loss none = refl
+ended_kept s (PdGroup group) loss none = refl
+ended_kept s (MdGroup group) loss none = refl
 ended_kept s Operator loss none = refl
 ended_kept s (Control slot) loss none = end_kept s slot loss none
 

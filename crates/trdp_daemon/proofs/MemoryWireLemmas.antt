@@ -161,7 +161,8 @@ pub give_within : (w : MemoryWireState) (give : Give) (gives : List Give)
     (failures room byte_room : ℕ) (refusal : Option Refusal)
     → is_give_beyond w (length give.offer.bytes) ≡ false
     → gives ≡ w.gives ++ give ∷ [] → failures ≡ one_more_if give.failed w.failures
-    → refusal ≡ refusal_behind w give → room ≡ w.give_room - 1 → byte_room ≡ w.byte_room - length give.offer.bytes
+    → refusal ≡ refusal_behind w give → room ≡ w.give_room - 1
+    → byte_room ≡ w.byte_room - length give.offer.bytes
     → (let x : MemoryWireState = record w {
       gives = gives;
       failures = failures;

@@ -18,7 +18,8 @@ use Rattle.trdp_script.specs.PortLines.{control_line_of, operator_line_of}
 use Rattle.trdp_model.specs.NodeModels.{node_unless, slots_after}
 use Rattle.trdp_script.specs.declared.fault.LineFault.{LineFault}
 use Rattle.trdp_daemon.specs.declared.port.Port.{Port}
-use Rattle.trdp_daemon.specs.declared.port.Port.TheVariants.{Pd, Md, Operator, Control}
+use Rattle.trdp_daemon.specs.declared.port.Port.TheVariants.{Pd, Md, PdGroup, MdGroup}
+use Rattle.trdp_daemon.specs.declared.port.Port.TheVariants.{Operator, Control}
 use Rattle.trdp_daemon.specs.declared.totals.Totals.{Totals}
 use Rattle.trdp_daemon.specs.Told.{Arrived, Failed, Nothing, Came}
 use Rattle.trdp_daemon.specs.Effects.{ServiceState, Effect, Loss, LineLost, EventLost, TextsLost}
@@ -115,6 +116,8 @@ datagram_keeps : (s : ServiceState) (totals : Totals) (port : Port) (from : Plac
 unfolding datagram_effect
 datagram_keeps s totals Pd from bytes loss = event_keeps s _ loss
 datagram_keeps s totals Md from bytes loss = event_keeps s _ loss
+datagram_keeps s totals (PdGroup group) from bytes loss = event_keeps s _ loss
+datagram_keeps s totals (MdGroup group) from bytes loss = event_keeps s _ loss
 datagram_keeps s totals Operator from bytes loss =
     operator_keeps s from totals (operator_line_of bytes) loss
 datagram_keeps s totals (Control slot) from bytes loss =
@@ -133,6 +136,8 @@ quiet_keeps : (s : ServiceState) (port : Port) (loss : Loss)
 unfolding quiet_effect
 quiet_keeps s Pd loss = omega arith
 quiet_keeps s Md loss = omega arith
+quiet_keeps s (PdGroup group) loss = omega arith
+quiet_keeps s (MdGroup group) loss = omega arith
 quiet_keeps s Operator loss = omega arith
 quiet_keeps s (Control slot) loss = silence_keeps (is_silent s slot) s slot loss
 
@@ -141,6 +146,8 @@ ended_keeps : (s : ServiceState) (port : Port) (loss : Loss)
 unfolding ended_effect
 ended_keeps s Pd loss = omega arith
 ended_keeps s Md loss = omega arith
+ended_keeps s (PdGroup group) loss = omega arith
+ended_keeps s (MdGroup group) loss = omega arith
 ended_keeps s Operator loss = omega arith
 ended_keeps s (Control slot) loss = end_keeps s slot loss
 

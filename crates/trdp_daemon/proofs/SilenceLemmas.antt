@@ -15,7 +15,8 @@ use Rattle.trdp_script.specs.PortLines.{control_line_of, operator_line_of}
 use Rattle.trdp_script.specs.declared.fault.LineFault.{LineFault}
 use Rattle.trdp_daemon.specs.declared.contact.Contact.{Contact}
 use Rattle.trdp_daemon.specs.declared.port.Port.{Port}
-use Rattle.trdp_daemon.specs.declared.port.Port.TheVariants.{Pd, Md, Operator, Control}
+use Rattle.trdp_daemon.specs.declared.port.Port.TheVariants.{Pd, Md, PdGroup, MdGroup}
+use Rattle.trdp_daemon.specs.declared.port.Port.TheVariants.{Operator, Control}
 use Rattle.trdp_daemon.specs.declared.totals.Totals.{Totals}
 use Rattle.trdp_daemon.specs.Told.{Arrived, Failed, Nothing, Came}
 use Rattle.trdp_daemon.specs.Effects.{ServiceState, Effect, Loss, LineLost, EventLost, TextsLost}
@@ -148,6 +149,10 @@ datagram_none : (slot : ℕ) (s : ServiceState) (totals : Totals) (port : Port) 
 unfolding datagram_effect is_line_of
 datagram_none slot s totals Pd from bytes loss other none = event_none slot s _ loss none
 datagram_none slot s totals Md from bytes loss other none = event_none slot s _ loss none
+datagram_none slot s totals (PdGroup group) from bytes loss other none =
+    event_none slot s _ loss none
+datagram_none slot s totals (MdGroup group) from bytes loss other none =
+    event_none slot s _ loss none
 datagram_none slot s totals Operator from bytes loss other none =
     operator_none slot s from totals (operator_line_of bytes) loss none
 datagram_none slot s totals (Control heard) from bytes loss other none =
@@ -163,6 +168,8 @@ quiet_none : (slot : ℕ) (s : ServiceState) (port : Port) (loss : Loss)
 unfolding quiet_effect
 quiet_none slot s Pd loss none = none
 quiet_none slot s Md loss none = none
+quiet_none slot s (PdGroup group) loss none = none
+quiet_none slot s (MdGroup group) loss none = none
 quiet_none slot s Operator loss none = none
 quiet_none slot s (Control t) loss none = either_none (is_silent s t) slot
     (end_effect s t loss) (still s) (end_none slot s t loss none) none
@@ -172,6 +179,8 @@ ended_none : (slot : ℕ) (s : ServiceState) (port : Port) (loss : Loss)
 unfolding ended_effect
 ended_none slot s Pd loss none = none
 ended_none slot s Md loss none = none
+ended_none slot s (PdGroup group) loss none = none
+ended_none slot s (MdGroup group) loss none = none
 ended_none slot s Operator loss none = none
 ended_none slot s (Control t) loss none = end_none slot s t loss none
 
@@ -223,6 +232,8 @@ unfolding runs_out is_control_of taking_effect quiet_effect
 out_none slot s totals port ended Failed loss out = absurd (cc)
 out_none slot s totals Pd ended Nothing loss out = absurd (cc)
 out_none slot s totals Md ended Nothing loss out = absurd (cc)
+out_none slot s totals (PdGroup group) ended Nothing loss out = absurd (cc)
+out_none slot s totals (MdGroup group) ended Nothing loss out = absurd (cc)
 out_none slot s totals Operator ended Nothing loss out = absurd (cc)
 out_none slot s totals (Control t) ended Nothing loss out =
     let both = both_true (t == slot) (is_silent s slot) out in

@@ -10,11 +10,9 @@ use Rattle.std.specs.Prelude.{Result, Ok, Err}
 use Rattle.std.specs.Result.{IsErrAnd}
 use Rattle.trdp_base.specs.declared.place.Place.{Place}
 use Rattle.trdp_dataset.specs.Configs.{ConfigModel}
-use Rattle.trdp_daemon.specs.declared.port.Port.TheVariants.{Pd, Md, Operator}
-use Rattle.trdp_daemon.specs.Ports.{place_of_port, ports_of, port_unless_0, control_ports}
-use Rattle.trdp_daemon.specs.Ports.{control_numbers}
+use Rattle.trdp_daemon.specs.Ports.{place_of_port}
 use Rattle.trdp_daemon.specs.Sockets.{SocketCall, Binds, Watches, MadeInTurn, StopsAtOne}
-use Rattle.trdp_daemon.specs.Sockets.{refused, fault_of, socket_of, bind_of, watch_of}
+use Rattle.trdp_daemon.specs.Sockets.{refused, fault_of, socket_of, bind_of, ttl_of, watch_of}
 use Rattle.trdp_daemon.specs.Told.{TellsMore}
 use Rattle.trdp_daemon.proofs.LinkLemmas.{adds_none, adds_both}
 
@@ -87,17 +85,22 @@ asked_all f all a b p = subst (λ (l : List Port). TellsMore a b (map f l)) whol
 
 -- one call
 pub bind_made : (old new : Option (List SocketCall)) (config : ConfigModel) (port : Port) (s : ℕ)
-    (place : Place) (result : Result (Unit {0}) BindFault)
-    → s ≡ socket_of port → place ≡ place_of_port config port
-    → TellsMore old new (Binds s place (fault_of result) ∷ [])
+    (place : Place) (ttl : Option ℕ) (result : Result (Unit {0}) BindFault)
+    → s ≡ socket_of config.groups port → place ≡ place_of_port config port
+    → ttl ≡ ttl_of config port
+    → TellsMore old new (Binds s place ttl (fault_of result) ∷ [])
     → MadeInTurn (bind_of config port ∷ []) (fault_of result) old new
-bind_made old new config port s place result at here told = by_result result
+bind_made old new config port s place ttl result at here far told = by_result result
     (subst (λ (n : ℕ). TellsMore old new
-    (Binds n (place_of_port config port) (fault_of result) ∷ [])) at
-    (subst (λ (p : Place). TellsMore old new (Binds s p (fault_of result) ∷ [])) here told))
+    (Binds n (place_of_port config port) (ttl_of config port) (fault_of result) ∷ [])) at
+    (subst (λ (p : Place). TellsMore old new
+    (Binds s p (ttl_of config port) (fault_of result) ∷ [])) here
+    (subst (λ (t : Option ℕ). TellsMore old new (Binds s place t (fault_of result) ∷ []))
+    far told)))
   where
     by_result : (r : Result (Unit {0}) BindFault)
-        → TellsMore old new (Binds (socket_of port) (place_of_port config port) (fault_of r) ∷ [])
+        → TellsMore old new (Binds (socket_of config.groups port) (place_of_port config port)
+        (ttl_of config port) (fault_of r) ∷ [])
         → MadeInTurn (bind_of config port ∷ []) (fault_of r) old new
     by_result (Ok x) made = made
     by_result (Err fault) made = record {
@@ -108,20 +111,20 @@ bind_made old new config port s place result at here told = by_result result
       made = made;
     }
 
-pub watch_made : (old new : Option (List SocketCall)) (port : Port) (s : ℕ)
+pub watch_made : (old new : Option (List SocketCall)) (config : ConfigModel) (port : Port) (s : ℕ)
     (result : Result (Unit {0}) BindFault)
-    → s ≡ socket_of port → TellsMore old new (Watches s (fault_of result) ∷ [])
-    → MadeInTurn (watch_of port ∷ []) (fault_of result) old new
-watch_made old new port s result at told = by_result result
+    → s ≡ socket_of config.groups port → TellsMore old new (Watches s (fault_of result) ∷ [])
+    → MadeInTurn (watch_of config port ∷ []) (fault_of result) old new
+watch_made old new config port s result at told = by_result result
     (subst (λ (n : ℕ). TellsMore old new (Watches n (fault_of result) ∷ [])) at told)
   where
     by_result : (r : Result (Unit {0}) BindFault)
-        → TellsMore old new (Watches (socket_of port) (fault_of r) ∷ [])
-        → MadeInTurn (watch_of port ∷ []) (fault_of r) old new
+        → TellsMore old new (Watches (socket_of config.groups port) (fault_of r) ∷ [])
+        → MadeInTurn (watch_of config port ∷ []) (fault_of r) old new
     by_result (Ok x) made = made
     by_result (Err fault) made = record {
       granted = [];
-      last = watch_of port;
+      last = watch_of config port;
       behind = [];
       calls_are = refl;
       made = made;
@@ -145,8 +148,6 @@ made_behind before calls (Some fault) a b c first then_these =
     stops_behind fault before calls a b c first then_these
 
 -- before the first port
-pub asked_first : (f : Port → SocketCall) (config : ConfigModel) (a : Option (List SocketCall))
-    → Asked f (ports_of config) a a (Pd ∷ Md ∷ (port_unless_0 config.operator_port Operator
-    ++ control_ports 0 (control_numbers config)))
-unfolding ports_of
-asked_first f config a = record { done = []; told = adds_none a; whole = refl }
+pub asked_first : (f : Port → SocketCall) (all : List Port) (a : Option (List SocketCall))
+    → Asked f all a a all
+asked_first f all a = record { done = []; told = adds_none a; whole = refl }

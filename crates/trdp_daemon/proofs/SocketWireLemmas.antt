@@ -18,38 +18,41 @@ use Rattle.trdp_daemon.specs.SocketWires.{TakesAtSocket, GivesAtSocket, handed_i
 use Rattle.trdp_daemon.specs.Told.{TellsMore, Arrived, Failed, Nothing, Came, arrived_in}
 
 -- the take that was made, where its answer and its socket are known
-asked_at : (s room : ℕ) (port : Port) (old new : Option (List SocketCall)) (a b : Arrived)
-    → s ≡ socket_of port → a ≡ b → TellsMore old new (TakesFrom s room a ∷ [])
-    → TellsMore old new (TakesFrom (socket_of port) room b ∷ [])
-asked_at s room port old new a b at is told =
-    subst (λ (x : Arrived). TellsMore old new (TakesFrom (socket_of port) room x ∷ [])) is
+asked_at : (groups : List ℕ) (s room : ℕ) (port : Port) (old new : Option (List SocketCall))
+    (a b : Arrived)
+    → s ≡ socket_of groups port → a ≡ b → TellsMore old new (TakesFrom s room a ∷ [])
+    → TellsMore old new (TakesFrom (socket_of groups port) room b ∷ [])
+asked_at groups s room port old new a b at is told =
+    subst (λ (x : Arrived). TellsMore old new (TakesFrom (socket_of groups port) room x ∷ [])) is
     (subst (λ (n : ℕ). TellsMore old new (TakesFrom n room a ∷ [])) at told)
 
 pub took_nothing : {s : ℕ} {old new : Option (List SocketCall)}
-    (port : Port) (room : List ℕ) (got : Result (Option (Place × ℕ)) SocketFault) (n : ℕ)
-    → s ≡ socket_of port → got ≡ Ok None
+    (groups : List ℕ) (port : Port) (room : List ℕ)
+    (got : Result (Option (Place × ℕ)) SocketFault) (n : ℕ)
+    → s ≡ socket_of groups port → got ≡ Ok None
     → TellsMore old new (TakesFrom s (length room) (arrived_in got room) ∷ [])
-    → TakesAtSocket old new port room (Ok None) n n false
+    → TakesAtSocket groups old new port room (Ok None) n n false
 unfolding handed_in one_more_if
-took_nothing port room got n at is told = record {
+took_nothing groups port room got n at is told = record {
   arrived = Nothing;
-  asked = asked_at _ _ _ _ _ _ _ at (ap (λ r. arrived_in r room) is) told;
+  asked = asked_at groups _ _ _ _ _ _ _ at (ap (λ r. arrived_in r room) is) told;
   answer = refl;
   counted = refl;
   noted = refl;
 }
 
 pub took_answer : {s : ℕ} {old new : Option (List SocketCall)}
-    (port : Port) (room bytes : List ℕ) (got : Result (Option (Place × ℕ)) SocketFault)
+    (groups : List ℕ) (port : Port) (room bytes : List ℕ)
+    (got : Result (Option (Place × ℕ)) SocketFault)
     (from : Place) (len n : ℕ)
-    → s ≡ socket_of port → got ≡ Ok (Some (from, len)) → bytes ≡ take len room
+    → s ≡ socket_of groups port → got ≡ Ok (Some (from, len)) → bytes ≡ take len room
     → is_answer port bytes ≡ true
     → TellsMore old new (TakesFrom s (length room) (arrived_in got room) ∷ [])
-    → TakesAtSocket old new port room (Ok None) n n true
+    → TakesAtSocket groups old new port room (Ok None) n n true
 unfolding handed_in one_more_if
-took_answer port room bytes got from len n at is front answers told = record {
+took_answer groups port room bytes got from len n at is front answers told = record {
   arrived = Came from bytes;
-  asked = asked_at _ _ _ _ _ _ _ at
+  asked = asked_at groups _ _ _ _ _ _ _ at
       (ap (λ r. arrived_in r room) is ∙ ap (λ l. Came from l) (sym front)) told;
   answer = by_answer (is_answer port bytes) answers;
   counted = refl;
@@ -61,16 +64,17 @@ took_answer port room bytes got from len n at is front answers told = record {
     by_answer false is = absurd (cc)
 
 pub took_datagram : {s : ℕ} {old new : Option (List SocketCall)}
-    (port : Port) (room bytes : List ℕ) (got : Result (Option (Place × ℕ)) SocketFault)
+    (groups : List ℕ) (port : Port) (room bytes : List ℕ)
+    (got : Result (Option (Place × ℕ)) SocketFault)
     (from : Place) (len n : ℕ)
-    → s ≡ socket_of port → got ≡ Ok (Some (from, len)) → bytes ≡ take len room
+    → s ≡ socket_of groups port → got ≡ Ok (Some (from, len)) → bytes ≡ take len room
     → is_answer port bytes ≡ false
     → TellsMore old new (TakesFrom s (length room) (arrived_in got room) ∷ [])
-    → TakesAtSocket old new port room (Ok (Some (from, len))) n n true
+    → TakesAtSocket groups old new port room (Ok (Some (from, len))) n n true
 unfolding handed_in one_more_if
-took_datagram port room bytes got from len n at is front answers told = record {
+took_datagram groups port room bytes got from len n at is front answers told = record {
   arrived = Came from bytes;
-  asked = asked_at _ _ _ _ _ _ _ at
+  asked = asked_at groups _ _ _ _ _ _ _ at
       (ap (λ r. arrived_in r room) is ∙ ap (λ l. Came from l) (sym front)) told;
   answer = ap (λ l. Came from l) (sym front) ∙ by_answer (is_answer port bytes) answers;
   counted = refl;
@@ -83,18 +87,18 @@ took_datagram port room bytes got from len n at is front answers told = record {
 
 -- a take that failed, where the count of failures rises or not
 pub took_failure : {s : ℕ} {old new : Option (List SocketCall)}
-    (port : Port) (room : List ℕ) (got : Result (Option (Place × ℕ)) SocketFault)
+    (groups : List ℕ) (port : Port) (room : List ℕ) (got : Result (Option (Place × ℕ)) SocketFault)
     (fault : SocketFault) (counted : Result (Unit {0}) WireFault)
     (result : Result (Option (Place × ℕ)) WireFault) (n m : ℕ)
-    → s ≡ socket_of port → got ≡ Err fault
+    → s ≡ socket_of groups port → got ≡ Err fault
     → arrived_in result room ≡ (if is_err counted then Failed else Nothing)
     → is_err counted ≡ nat_lt n (2 ^ 64 - 1) → m ≡ one_more_if (is_err counted) n
     → TellsMore old new (TakesFrom s (length room) (arrived_in got room) ∷ [])
-    → TakesAtSocket old new port room result n m true
+    → TakesAtSocket groups old new port room result n m true
 unfolding handed_in failure_after
-took_failure port room got fault counted result n m at is same fails count told = record {
+took_failure groups port room got fault counted result n m at is same fails count told = record {
   arrived = Failed;
-  asked = asked_at _ _ _ _ _ _ _ at (ap (λ r. arrived_in r room) is) told;
+  asked = asked_at groups _ _ _ _ _ _ _ at (ap (λ r. arrived_in r room) is) told;
   answer = same ∙ ap (λ b. if b then Failed else Nothing) fails;
   counted = count ∙ ap (λ b. one_more_if b n) (sym (by_failed (is_err counted) same));
   noted = refl;
@@ -106,16 +110,16 @@ took_failure port room got fault counted result n m at is same fails count told 
     by_failed false is = ap has_failed is
 
 -- a give that went well
-pub gave : (old new : Option (List SocketCall)) (port : Port) (s : ℕ) (to : Place)
+pub gave : (groups : List ℕ) (old new : Option (List SocketCall)) (port : Port) (s : ℕ) (to : Place)
     (bytes : List ℕ) (got : Result (Unit {0}) SocketFault) (n : ℕ) (refusal : Option Refusal)
-    → s ≡ socket_of port → fault_of got ≡ None
+    → s ≡ socket_of groups port → fault_of got ≡ None
     → TellsMore old new (GivesFrom s to bytes (fault_of got) ∷ [])
-    → GivesAtSocket old new port to bytes (Ok tt) n n refusal refusal
+    → GivesAtSocket groups old new port to bytes (Ok tt) n n refusal refusal
 unfolding one_more_if
-gave old new port s to bytes got n refusal at well told = record {
+gave groups old new port s to bytes got n refusal at well told = record {
   fault = None;
   asked = subst (λ (f : Option SocketFault).
-      TellsMore old new (GivesFrom (socket_of port) to bytes f ∷ [])) well
+      TellsMore old new (GivesFrom (socket_of groups port) to bytes f ∷ [])) well
       (subst (λ (i : ℕ). TellsMore old new (GivesFrom i to bytes (fault_of got) ∷ [])) at told);
   answer = refl;
   counted = refl;

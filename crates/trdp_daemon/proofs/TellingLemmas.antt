@@ -75,7 +75,8 @@ tells_both {W} {takings_in} {gives_in} {contacts} {a} {b} {c} {rs} {ss} p q = re
 pub tells_one :
     {W : Type 0} {takings_in : W → Option (List Taking)} {gives_in : W → Option (List Give)}
     {contacts : List (Option Contact)} {a b : Link W} {r : RecordModel}
-    → TellsRecord takings_in gives_in contacts a b r → Tells takings_in gives_in contacts a b (r ∷ [])
+    → TellsRecord takings_in gives_in contacts a b r
+    → Tells takings_in gives_in contacts a b (r ∷ [])
 tells_one {W} {takings_in} {gives_in} {contacts} {a} {b} {r} p = record {
   marks = p.lost ∷ [];
   each = refl;

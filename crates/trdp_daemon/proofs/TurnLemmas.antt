@@ -10,7 +10,8 @@ use Rattle.trdp_daemon.specs.declared.link.Link.{Link}
 use Rattle.trdp_model.specs.Events.{EventModel}
 use Rattle.trdp_model.specs.NodeModels.{NodeModel}
 use Rattle.trdp_daemon.specs.declared.port.Port.{Port}
-use Rattle.trdp_daemon.specs.declared.port.Port.TheVariants.{Pd, Md, Operator, Control}
+use Rattle.trdp_daemon.specs.declared.port.Port.TheVariants.{Pd, Md, PdGroup, MdGroup}
+use Rattle.trdp_daemon.specs.declared.port.Port.TheVariants.{Operator, Control}
 use Rattle.trdp_daemon.specs.declared.service.Service.{Service}
 use Rattle.trdp_daemon.specs.Told.{Taking, Give}
 use Rattle.trdp_daemon.specs.Effects.{ServiceState, Effect, Telling, both}
@@ -135,6 +136,8 @@ there_else : (node : NodeModel) (port : Port) → ((slot : ℕ) → port ≡ Con
     → is_there node port ≡ true
 there_else node Pd other = refl
 there_else node Md other = refl
+there_else node (PdGroup group) other = refl
+there_else node (MdGroup group) other = refl
 there_else node Operator other = refl
 there_else node (Control slot) other = absurd (other slot refl)
 
@@ -192,7 +195,9 @@ visits_both {W} {takings_in} {gives_in} {r} {s} {t} {a} {b} {c} {ps} {qs} p q =
       counted = visits_counted_both a.totals (service_state r) p.visits q.visits
           p.comes.carried.gives q.comes.carried.gives
           (given_length p.comes.carried)
-          p.counted (counted_from q.visits q.comes.carried.gives p.comes.service_is p.comes.carried.totals q.counted);
+          p.counted
+          (counted_from q.visits q.comes.carried.gives p.comes.service_is p.comes.carried.totals
+          q.counted);
     }
 
 -- one more port
@@ -227,7 +232,8 @@ turn_taken {W} {takings_in} {gives_in} {r} {s} {t} {a} {b} {c} ports reading p q
           (λ after. visits_effect after q.visits) p.comes q.comes;
       counted = moment_counted a.totals (service_state r) turn
           p.comes.carried.gives q.comes.carried.gives (given_length p.comes.carried)
-          (counted_from q.visits q.comes.carried.gives p.comes.service_is p.comes.carried.totals q.counted);
+          (counted_from q.visits q.comes.carried.gives p.comes.service_is p.comes.carried.totals
+          q.counted);
     }
 
 -- the moment of a turn that was begun

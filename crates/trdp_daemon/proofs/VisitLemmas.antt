@@ -6,6 +6,7 @@ use Rattle.std.proofs.Common.{Result, Ok, Err, refl, sym, ◌∙◌, ap, subst, 
 use Rattle.std.specs.Prelude.{option_map}
 use Rattle.trdp_base.specs.declared.place.Place.{Place}
 use Rattle.trdp_model.specs.Events.{EventModel, DatagramIs, event_model}
+use Rattle.trdp_model.specs.declared.record.Protocol.{Protocol}
 use Rattle.trdp_model.specs.declared.record.Protocol.TheVariants.{Pd as PdData, Md as MdData}
 use Rattle.trdp_script.specs.declared.fault.LineFault.{LineFault}
 use Rattle.trdp_script.specs.declared.fault.LineFault.TheVariants.{OutOfMemory}
@@ -19,7 +20,8 @@ use Rattle.trdp_script.specs.PortLines.{control_line_of, operator_line_of}
 use Rattle.trdp_daemon.specs.declared.fault.WireFault.{WireFault}
 use Rattle.trdp_daemon.specs.declared.link.Link.{Link}
 use Rattle.trdp_daemon.specs.declared.port.Port.{Port}
-use Rattle.trdp_daemon.specs.declared.port.Port.TheVariants.{Pd, Md, Operator, Control}
+use Rattle.trdp_daemon.specs.declared.port.Port.TheVariants.{Pd, Md, PdGroup, MdGroup}
+use Rattle.trdp_daemon.specs.declared.port.Port.TheVariants.{Operator, Control}
 use Rattle.trdp_daemon.specs.declared.service.Service.{Service}
 use Rattle.trdp_daemon.specs.declared.totals.Totals.{Totals}
 use Rattle.trdp_daemon.specs.Counting.{totals_after}
@@ -31,9 +33,9 @@ use Rattle.trdp_daemon.specs.Links.{Carries}
 use Rattle.trdp_daemon.specs.Services.{Comes, ComesWith, TakesOnce, service_state}
 use Rattle.trdp_daemon.specs.Turns.{Visit, visit_effect, take_room}
 use Rattle.trdp_daemon.specs.Visits.{fault_telling, operator_event, operator_effect}
-use Rattle.trdp_daemon.specs.Visits.{question_effect}
+use Rattle.trdp_daemon.specs.Visits.{question_effect, telegram_effect}
 use Rattle.trdp_daemon.specs.Visits.{line_lost_or, lives_still, control_effect, control_event}
-use Rattle.trdp_daemon.specs.Ports.{place_of_port}
+use Rattle.trdp_daemon.specs.Ports.{group_place, place_of_port}
 use Rattle.trdp_daemon.specs.Visits.{came_effect, datagram_effect, taking_effect, heard_from}
 use Rattle.trdp_daemon.proofs.LinkLemmas.{carries_none, carries_both}
 use Rattle.trdp_daemon.proofs.TellingLemmas.{silence_both}
@@ -197,33 +199,60 @@ control_took {W} {takings_in} {gives_in} {a} {b} old
     let all = event_loss old new (service_state old) slot from event comes.loss here in
     rw is (record { loss = all.loss; comes = all.comes })
 
+-- a telegram that came to a port, which is known, went to the place of that port
+pub at_telegram :
+    {W : Type 0} {takings_in : W → Option (List Taking)} {gives_in : W → Option (List Give)}
+    {a b : Link W} (old new : Service) (totals : Totals) (protocol : Protocol) (port known : Port)
+    (from to : Place) (bytes : List ℕ) → port ≡ known
+    → ((loss : Loss) → datagram_effect (service_state old) totals known from bytes loss
+    ≡ telegram_effect (service_state old) protocol known from bytes loss)
+    → to ≡ place_of_port old.node.config known
+    → ComesWith takings_in gives_in old new a b
+    (event_effect (service_state old) (DatagramIs protocol from to bytes))
+    → ComesWith takings_in gives_in old new a b
+    (datagram_effect (service_state old) totals port from bytes)
+at_telegram {W} {takings_in} {gives_in} {a} {b} old new totals protocol port known from to bytes
+    is same own comes =
+    let here = subst (λ (p : Place). ComesWith takings_in gives_in old new a b
+    (event_effect (service_state old) (DatagramIs protocol from p bytes))) own comes in
+    subst (λ (p : Port). ComesWith takings_in gives_in old new a b
+    (datagram_effect (service_state old) totals p from bytes)) (sym is)
+    (record {
+      loss = here.loss;
+      comes = subst (λ (e : Effect). Comes takings_in gives_in old new a b [] e)
+          (sym (same here.loss)) here.comes;
+    })
+
+-- what a telegram comes to at each of the network's ports
+pub pd_comes : (s : ServiceState) (totals : Totals) (from : Place) (bytes : List ℕ) (loss : Loss)
+    → datagram_effect s totals Pd from bytes loss ≡ telegram_effect s PdData Pd from bytes loss
+unfolding datagram_effect
+pd_comes s totals from bytes loss = refl
+
+pub md_comes : (s : ServiceState) (totals : Totals) (from : Place) (bytes : List ℕ) (loss : Loss)
+    → datagram_effect s totals Md from bytes loss ≡ telegram_effect s MdData Md from bytes loss
+unfolding datagram_effect
+md_comes s totals from bytes loss = refl
+
+pub pd_group_comes : (s : ServiceState) (totals : Totals) (group : ℕ) (from : Place)
+    (bytes : List ℕ) (loss : Loss) → datagram_effect s totals (PdGroup group) from bytes loss
+    ≡ telegram_effect s PdData (PdGroup group) from bytes loss
+unfolding datagram_effect
+pd_group_comes s totals group from bytes loss = refl
+
+pub md_group_comes : (s : ServiceState) (totals : Totals) (group : ℕ) (from : Place)
+    (bytes : List ℕ) (loss : Loss) → datagram_effect s totals (MdGroup group) from bytes loss
+    ≡ telegram_effect s MdData (MdGroup group) from bytes loss
+unfolding datagram_effect
+md_group_comes s totals group from bytes loss = refl
+
+-- the place of a group's port has the number of the node's own
+pub group_at : (group number : ℕ) (home own : Place) → home ≡ own
+    → number ≡ own.port → group_place group home.port ≡ group_place group number
+group_at group number home own is same =
+    ap (λ (p : Place). group_place group p.port) is ∙ ap (group_place group) (sym same)
+
 -- where a port is known
-pub at_pd : {W : Type 0} {takings_in : W → Option (List Taking)} {gives_in : W → Option (List Give)}
-    {a b : Link W} (old new : Service) (totals : Totals) (port : Port) (from home : Place)
-    (bytes : List ℕ)
-    → port ≡ Pd → home ≡ place_of_port old.node.config Pd
-    → ComesWith takings_in gives_in old new a
-    b (event_effect (service_state old) (DatagramIs PdData from home bytes)) → ComesWith takings_in
-    gives_in old new a b (datagram_effect (service_state old) totals port from bytes)
-unfolding datagram_effect
-at_pd {W} {takings_in} {gives_in} {a} {b} old new totals port from home bytes is own comes =
-    let here = subst (λ (p : Place). ComesWith takings_in gives_in old
-    new a b (event_effect (service_state old) (DatagramIs PdData from p bytes))) own comes in
-    rw is (record { loss = here.loss; comes = here.comes })
-
-pub at_md : {W : Type 0} {takings_in : W → Option (List Taking)} {gives_in : W → Option (List Give)}
-    {a b : Link W} (old new : Service) (totals : Totals) (port : Port) (from home : Place)
-    (bytes : List ℕ)
-    → port ≡ Md → home ≡ place_of_port old.node.config Md
-    → ComesWith takings_in gives_in old new a
-    b (event_effect (service_state old) (DatagramIs MdData from home bytes)) → ComesWith takings_in
-    gives_in old new a b (datagram_effect (service_state old) totals port from bytes)
-unfolding datagram_effect
-at_md {W} {takings_in} {gives_in} {a} {b} old new totals port from home bytes is own comes =
-    let here = subst (λ (p : Place). ComesWith takings_in gives_in old
-    new a b (event_effect (service_state old) (DatagramIs MdData from p bytes))) own comes in
-    rw is (record { loss = here.loss; comes = here.comes })
-
 pub at_operator :
     {W : Type 0} {takings_in : W → Option (List Taking)} {gives_in : W → Option (List Give)}
     {a b : Link W} (old new : Service) (totals : Totals) (port : Port) (from : Place)
@@ -315,8 +344,8 @@ pub visited_found :
     (came_effect (has_ended from) (service_state old) b.totals port from bytes)
     → TakesOnce takings_in gives_in old new a c port
 unfolding taking_effect
-visited_found {W} {takings_in} {gives_in} {a} {b} {c} old new port has_ended found from len room bytes
-    some front whole taken comes =
+visited_found {W} {takings_in} {gives_in} {a} {b} {c} old new port has_ended found from len room
+    bytes some front whole taken comes =
     let here = subst (λ (l : List ℕ). ComesWith takings_in gives_in old new b c
     (came_effect (has_ended from) (service_state old) b.totals port from l)) front comes in
     visited old new port has_ended found room whole taken

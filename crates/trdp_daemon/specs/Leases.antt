@@ -3,7 +3,8 @@ use Rattle.std.specs.Prelude.{ℕ, ◌+◌, nat_lt, Bool, false, Option, Some, N
 use Rattle.trdp_model.specs.Events.{CallIs, ResetCall}
 use Rattle.trdp_daemon.specs.declared.contact.Contact.{Contact}
 use Rattle.trdp_daemon.specs.declared.port.Port.{Port}
-use Rattle.trdp_daemon.specs.declared.port.Port.TheVariants.{Pd, Md, Operator, Control}
+use Rattle.trdp_daemon.specs.declared.port.Port.TheVariants.{Pd, Md, PdGroup, MdGroup}
+use Rattle.trdp_daemon.specs.declared.port.Port.TheVariants.{Operator, Control}
 use Rattle.trdp_daemon.specs.Effects.{ServiceState, Effect, Loss, contact_of, event_effect, still}
 use Rattle.trdp_daemon.specs.Effects.{with_contact}
 
@@ -39,6 +40,8 @@ silence_effect service slot loss =
 unfoldable pub quiet_effect : ServiceState → Port → Loss → Effect
 quiet_effect service Pd loss = still service
 quiet_effect service Md loss = still service
+quiet_effect service (PdGroup group) loss = still service
+quiet_effect service (MdGroup group) loss = still service
 quiet_effect service Operator loss = still service
 quiet_effect service (Control slot) loss = silence_effect service slot loss
 
@@ -47,5 +50,7 @@ quiet_effect service (Control slot) loss = silence_effect service slot loss
 unfoldable pub ended_effect : ServiceState → Port → Loss → Effect
 ended_effect service Pd loss = still service
 ended_effect service Md loss = still service
+ended_effect service (PdGroup group) loss = still service
+ended_effect service (MdGroup group) loss = still service
 ended_effect service Operator loss = still service
 ended_effect service (Control slot) loss = end_effect service slot loss

@@ -14,7 +14,7 @@ use Rattle.trdp_daemon.specs.Told.{TellsMore, Nothing, Came}
 
 -- the call that is remembered so
 abbrev pub call_of : SocketRow → SocketCall
-call_of (row.Bound socket place) = Binds socket place None
+call_of (row.Bound socket place ttl) = Binds socket place ttl None
 call_of (row.Taken socket room None) = TakesFrom socket room Nothing
 call_of (row.Taken socket room (Some found)) =
     TakesFrom socket room (Came found.0 found.1.items)

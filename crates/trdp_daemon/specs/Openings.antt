@@ -8,4 +8,4 @@ use Rattle.trdp_daemon.specs.Sockets.{SocketCall, bind_of, watch_of}
 -- the call of a request for a port, as granted
 abbrev pub request_of : ConfigModel → PortRequest → Port → SocketCall
 request_of config Bind port = bind_of config port
-request_of config (Watch alloc) port = watch_of port
+request_of config (Watch alloc) port = watch_of config port

@@ -5,10 +5,10 @@ use Rattle.trdp_daemon.specs.declared.rest_step.RestStep.{RestStep}
 use Rattle.trdp_daemon.specs.declared.rest_step.RestStep.TheVariants.{GoOn, Look, Sleep, Wait}
 use Rattle.trdp_daemon.specs.Told.{TellsMore}
 
--- a turn without a rest: the system is asked for news where no such turn is left before that
-abbrev pub busy_step : ℕ → RestStep
-busy_step zero = Look
-busy_step (suc left) = GoOn
+-- a turn without a rest: the system is asked for news, unless it goes on without
+abbrev pub busy_step : Bool → RestStep
+busy_step true = GoOn
+busy_step false = Look
 
 -- a rest of at most so many microseconds: a wait of whole milliseconds, which ends some 200
 -- microseconds early, as the system comes late; a sleep where no millisecond is left
@@ -17,18 +17,18 @@ idle_step most =
     if nat_lt (most - 200) 1000 then Sleep most else Wait ((most - 200) / 1000)
 
 -- the step of a rest of at most so many microseconds, where something was heard since the rest
--- before or not, and so many turns without a rest are left before the system is asked for news
-unfoldable pub step_of : Bool → ℕ → ℕ → RestStep
-step_of true most left = busy_step left
-step_of false zero left = busy_step left
-step_of false (suc n) left = idle_step (suc n)
+-- before or not, and a turn without a rest goes on or not
+unfoldable pub step_of : (heard : Bool) → ℕ → (goes_on : Bool) → RestStep
+step_of true most goes_on = busy_step goes_on
+step_of false zero goes_on = busy_step goes_on
+step_of false (suc n) goes_on = idle_step (suc n)
 
--- how many turns without a rest are left then: of sixteen one asks the system for news
-abbrev pub left_after : RestStep → ℕ → ℕ
-left_after GoOn left = left - 1
-left_after Look left = 15
-left_after (Sleep micros) left = 15
-left_after (Wait millis) left = 15
+-- whether a step is a rest: the first turn without one goes on behind it
+abbrev pub is_rest : RestStep → Bool
+is_rest GoOn = false
+is_rest Look = false
+is_rest (Sleep micros) = true
+is_rest (Wait millis) = true
 
 -- how many milliseconds the system is asked for news, if it is
 abbrev pub wait_in : RestStep → Option ℕ

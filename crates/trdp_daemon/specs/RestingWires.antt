@@ -7,7 +7,7 @@ use Rattle.trdp_daemon.specs.declared.port.Port.{Port}
 use Rattle.trdp_daemon.specs.declared.resting_wire.RestingWire.{RestingWire}
 use Rattle.trdp_daemon.specs.News.{WaitsIf, has_news, news_after}
 use Rattle.trdp_daemon.specs.declared.rest_step.RestStep.{RestStep}
-use Rattle.trdp_daemon.specs.RestSteps.{PausesSo, left_after, rest_left, step_of, wait_in}
+use Rattle.trdp_daemon.specs.RestSteps.{PausesSo, is_rest, rest_left, step_of, wait_in}
 use Rattle.trdp_daemon.specs.Sockets.{SocketCall, socket_of}
 use Rattle.trdp_daemon.specs.SocketWires.{TakesAtSocket}
 use Rattle.trdp_daemon.specs.Told.{TellsMore}
@@ -18,10 +18,11 @@ pub record TakesAtNews {S C : Type 0} (calls_of : S → Option (List SocketCall)
     (old new : RestingWire S C) (port : Port) (room : List ℕ)
     (result : Result (Option (Place × ℕ)) WireFault) : Type 0 where
   pub heard : Bool
-  pub takes : TakesAtSocket (calls_of old.wire.sockets) (calls_of new.wire.sockets) port room
-      result old.wire.failures new.wire.failures heard
+  pub takes : TakesAtSocket old.wire.groups (calls_of old.wire.sockets)
+      (calls_of new.wire.sockets) port room result old.wire.failures new.wire.failures heard
   pub noted : new.heard ≡ old.heard || heard
-  pub news : new.news ≡ news_after heard (socket_of port) old.news
+  pub news : new.news ≡ news_after heard (socket_of old.wire.groups port) old.news
+  pub groups : new.wire.groups ≡ old.wire.groups
 
 -- a take where there are none asks nothing, and finds nothing
 abbrev pub TakesIfNews : {S C : Type 0} → Bool → (S → Option (List SocketCall))
@@ -39,12 +40,12 @@ pub record RestsSo {S C : Type 0} (calls_of : S → Option (List SocketCall))
   pub began : ℕ
   pub ended : ℕ
   pub step : RestStep
-  pub step_is : step ≡ step_of old.heard (rest_left old.rested began most) old.left
+  pub step_is : step ≡ step_of old.heard (rest_left old.rested began most) old.goes_on
   pub read : TellsMore (readings_of old.clock) (readings_of new.clock) (began ∷ ended ∷ [])
   pub pauses : PausesSo step began (sleeps_of old.clock) (sleeps_of new.clock) old.busy new.busy
   pub waits : WaitsIf (wait_in step) (calls_of old.wire.sockets) (calls_of new.wire.sockets)
       old.news new.news
-  pub turns : new.left ≡ left_after step old.left
+  pub goes_on : new.goes_on ≡ is_rest step
   pub noted : new.rested ≡ Some ended
   pub forgotten : new.heard ≡ false
 
@@ -53,7 +54,7 @@ pub record IsFresh {S C : Type 0} (clock : C) (wire : RestingWire S C) : Type 0 
   pub clock_is : wire.clock ≡ clock
   pub news : (socket : ℕ) → has_news wire.news socket ≡ true
   pub heard : wire.heard ≡ false
-  pub left : wire.left ≡ 15
+  pub goes_on : wire.goes_on ≡ true
   pub busy : wire.busy ≡ None
   pub rested : wire.rested ≡ None
   pub failures : wire.wire.failures ≡ 0

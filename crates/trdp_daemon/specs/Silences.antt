@@ -3,7 +3,8 @@ use Rattle.std.specs.Prelude.{◌≡◌, ℕ, ◌+◌, ◌==◌, ◌&&◌, if◌
 use Rattle.std.specs.Prelude.{List, [], ◌∷◌, not}
 use Rattle.trdp_script.specs.PortLines.{control_line_of}
 use Rattle.trdp_daemon.specs.declared.port.Port.{Port}
-use Rattle.trdp_daemon.specs.declared.port.Port.TheVariants.{Pd, Md, Operator, Control}
+use Rattle.trdp_daemon.specs.declared.port.Port.TheVariants.{Pd, Md, PdGroup, MdGroup}
+use Rattle.trdp_daemon.specs.declared.port.Port.TheVariants.{Operator, Control}
 use Rattle.trdp_daemon.specs.Effects.{ServiceState}
 use Rattle.trdp_daemon.specs.Leases.{is_silent}
 use Rattle.trdp_daemon.specs.Told.{Arrived, Failed, Nothing, Came}
@@ -13,6 +14,8 @@ use Rattle.trdp_daemon.specs.Turns.{Visit, visit_effect, Turn, moment_effect, tu
 unfoldable pub is_line_of : ℕ → Port → List ℕ → Bool
 is_line_of slot Pd bytes = false
 is_line_of slot Md bytes = false
+is_line_of slot (PdGroup group) bytes = false
+is_line_of slot (MdGroup group) bytes = false
 is_line_of slot Operator bytes = false
 is_line_of slot (Control s) bytes = s == slot && is_ok (control_line_of s bytes)
 
@@ -39,6 +42,8 @@ HaveNoLine slot (turn ∷ turns) = BringNoLine slot turn.visits × HaveNoLine sl
 unfoldable pub is_control_of : ℕ → Port → Bool
 is_control_of slot Pd = false
 is_control_of slot Md = false
+is_control_of slot (PdGroup group) = false
+is_control_of slot (MdGroup group) = false
 is_control_of slot Operator = false
 is_control_of slot (Control s) = s == slot
 

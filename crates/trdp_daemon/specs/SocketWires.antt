@@ -6,7 +6,8 @@ use Rattle.std.specs.List.{starts_with}
 use Rattle.trdp_base.specs.declared.place.Place.{Place}
 use Rattle.trdp_daemon.specs.declared.fault.WireFault.{WireFault}
 use Rattle.trdp_daemon.specs.declared.port.Port.{Port}
-use Rattle.trdp_daemon.specs.declared.port.Port.TheVariants.{Pd, Md, Operator, Control}
+use Rattle.trdp_daemon.specs.declared.port.Port.TheVariants.{Pd, Md, PdGroup, MdGroup}
+use Rattle.trdp_daemon.specs.declared.port.Port.TheVariants.{Operator, Control}
 use Rattle.trdp_daemon.specs.declared.refusal.Refusal.{Refusal}
 use Rattle.trdp_daemon.specs.declared.socket_fault.SocketFault.{SocketFault}
 use Rattle.trdp_daemon.specs.Counting.{has_failed}
@@ -19,6 +20,8 @@ use Rattle.trdp_daemon.specs.Told.{TellsMore, Arrived, Failed, Nothing, Came, ar
 abbrev pub takes_lines : Port → Bool
 takes_lines Pd = false
 takes_lines Md = false
+takes_lines (PdGroup group) = false
+takes_lines (MdGroup group) = false
 takes_lines Operator = true
 takes_lines (Control slot) = true
 
@@ -45,13 +48,13 @@ is_heard Failed = true
 is_heard Nothing = false
 is_heard (Came from bytes) = true
 
--- one take was made, at the port's socket and with the whole room, and it answers what is handed in
--- of what arrived there; whether something was heard
-pub record TakesAtSocket (old new : Option (List SocketCall)) (port : Port) (room : List ℕ)
-    (result : Result (Option (Place × ℕ)) WireFault) (failures failures_then : ℕ)
+-- one take was made, at the port's socket among those of these groups and with the whole room, and
+-- it answers what is handed in of what arrived there; whether something was heard
+pub record TakesAtSocket (groups : List ℕ) (old new : Option (List SocketCall)) (port : Port)
+    (room : List ℕ) (result : Result (Option (Place × ℕ)) WireFault) (failures failures_then : ℕ)
     (heard : Bool) : Type 0 where
   pub arrived : Arrived
-  pub asked : TellsMore old new (TakesFrom (socket_of port) (length room) arrived ∷ [])
+  pub asked : TellsMore old new (TakesFrom (socket_of groups port) (length room) arrived ∷ [])
   pub answer : arrived_in result room ≡ handed_in failures port arrived
   pub counted : failures_then ≡ one_more_if (has_failed (arrived_in result room)) failures
   pub noted : heard ≡ is_heard arrived
@@ -59,11 +62,11 @@ pub record TakesAtSocket (old new : Option (List SocketCall)) (port : Port) (roo
 -- one give was made, from the port's socket, of these bytes to that place, and it answers whether
 -- that was refused, unless the count of failures is at its last value; the latest refusal is then
 -- this one, if it was
-pub record GivesAtSocket (old new : Option (List SocketCall)) (port : Port) (to : Place)
-    (bytes : List ℕ) (result : Result (Unit {0}) WireFault) (failures failures_then : ℕ)
+pub record GivesAtSocket (groups : List ℕ) (old new : Option (List SocketCall)) (port : Port)
+    (to : Place) (bytes : List ℕ) (result : Result (Unit {0}) WireFault) (failures failures_then : ℕ)
     (refusal refusal_then : Option Refusal) : Type 0 where
   pub fault : Option SocketFault
-  pub asked : TellsMore old new (GivesFrom (socket_of port) to bytes fault ∷ [])
+  pub asked : TellsMore old new (GivesFrom (socket_of groups port) to bytes fault ∷ [])
   pub answer : is_err result ≡ is_some fault && nat_lt failures (2 ^ 64 - 1)
   pub counted : failures_then ≡ one_more_if (is_err result) failures
   pub kept : refusal_then ≡ refusal_after port to fault refusal

@@ -1,21 +1,24 @@
 -- What is asked of the datagram sockets of a system.
-use Rattle.std.specs.Prelude.{◌≡◌, ℕ, ◌+◌, List, [], ◌∷◌, ◌++◌, map, Option, Some, None}
+use Rattle.std.specs.Prelude.{◌≡◌, ℕ, ◌+◌, ◌*◌, ◌==◌, List, [], ◌∷◌, ◌++◌, length, map}
+use Rattle.std.specs.Prelude.{Option, Some, None, unwrap_or}
+use Rattle.std.specs.List.{position}
 use Rattle.std.specs.Prelude.{Result, Ok, Err}
 use Rattle.trdp_base.specs.declared.place.Place.{Place}
 use Rattle.trdp_dataset.specs.Configs.{ConfigModel}
 use Rattle.trdp_daemon.specs.declared.bind_fault.BindFault.{BindFault}
 use Rattle.trdp_daemon.specs.declared.port.Port.{Port}
-use Rattle.trdp_daemon.specs.declared.port.Port.TheVariants.{Pd, Md, Operator, Control}
+use Rattle.trdp_daemon.specs.declared.port.Port.TheVariants.{Pd, Md, PdGroup, MdGroup}
+use Rattle.trdp_daemon.specs.declared.port.Port.TheVariants.{Operator, Control}
 use Rattle.trdp_daemon.specs.declared.socket_fault.SocketFault.{SocketFault}
-use Rattle.trdp_daemon.specs.Ports.{ports_of, place_of_port}
+use Rattle.trdp_daemon.specs.Ports.{network_ports, ports_of, place_of_port}
 use Rattle.trdp_daemon.specs.Told.{TellsMore, Arrived}
 
--- one call, with its answer: a socket is bound at a place; with room for so many bytes, what was
--- taken from it; what was given to it, and the fault if it refused that; a wait ends when a
--- datagram comes there; and a wait, of at most so many milliseconds, which tells at which sockets
--- something came
+-- one call, with its answer: a socket is bound at a place, with the time to live of what it sends,
+-- where it is to be another than the system's; with room for so many bytes, what was taken from
+-- it; what was given to it, and the fault if it refused that; a wait ends when a datagram comes
+-- there; and a wait, of at most so many milliseconds, which tells at which sockets something came
 pub data SocketCall : Type 0 where
-  Binds : (socket : ℕ) (place : Place) (fault : Option BindFault) → SocketCall
+  Binds : (socket : ℕ) (place : Place) (ttl : Option ℕ) (fault : Option BindFault) → SocketCall
   TakesFrom : (socket room : ℕ) (arrived : Arrived) → SocketCall
   GivesFrom : (socket : ℕ) (to : Place) (bytes : List ℕ) (fault : Option SocketFault) → SocketCall
   Watches : (socket : ℕ) (fault : Option BindFault) → SocketCall
@@ -28,7 +31,7 @@ fault_of (Err fault) = Some fault
 
 -- a call of those that can be refused, refused with this fault
 abbrev pub refused : BindFault → SocketCall → SocketCall
-refused fault (Binds socket place answer) = Binds socket place (Some fault)
+refused fault (Binds socket place ttl answer) = Binds socket place ttl (Some fault)
 refused fault (TakesFrom socket room arrived) = TakesFrom socket room arrived
 refused fault (GivesFrom socket to bytes answer) = GivesFrom socket to bytes answer
 refused fault (Watches socket answer) = Watches socket (Some fault)
@@ -51,20 +54,36 @@ abbrev pub MadeInTurn : List SocketCall → Option BindFault → Option (List So
 MadeInTurn calls None old new = TellsMore old new calls
 MadeInTurn calls (Some fault) old new = StopsAtOne calls fault old new
 
--- the socket of each port
-abbrev pub socket_of : Port → ℕ
-socket_of Pd = 0
-socket_of Md = 1
-socket_of Operator = 2
-socket_of (Control slot) = 3 + slot
+-- the place of a group among these, from 0; behind them all where it is none of them
+abbrev pub group_index : List ℕ → ℕ → ℕ
+group_index groups group = unwrap_or (position (λ g. g == group) groups) (length groups)
+
+-- the socket of each port, where these are the groups
+abbrev pub socket_of : List ℕ → Port → ℕ
+socket_of groups Pd = 0
+socket_of groups Md = 1
+socket_of groups Operator = 2
+socket_of groups (Control slot) = 3 + slot
+socket_of groups (PdGroup group) = 34 + 2 * group_index groups group
+socket_of groups (MdGroup group) = 35 + 2 * group_index groups group
+
+-- the time to live of the telegrams that leave from a port, if any do
+abbrev pub ttl_of : ConfigModel → Port → Option ℕ
+ttl_of config Pd = Some config.ttl
+ttl_of config Md = Some config.ttl
+ttl_of config (PdGroup group) = None
+ttl_of config (MdGroup group) = None
+ttl_of config Operator = None
+ttl_of config (Control slot) = None
 
 -- the socket of a port is bound at its place
 abbrev pub bind_of : ConfigModel → Port → SocketCall
-bind_of config port = Binds (socket_of port) (place_of_port config port) None
+bind_of config port = Binds (socket_of config.groups port) (place_of_port config port)
+    (ttl_of config port) None
 
 -- a wait ends when a datagram comes at a port
-abbrev pub watch_of : Port → SocketCall
-watch_of port = Watches (socket_of port) None
+abbrev pub watch_of : ConfigModel → Port → SocketCall
+watch_of config port = Watches (socket_of config.groups port) None
 
 -- the sockets of a configuration's ports are bound, one after another
 abbrev pub binds_of : ConfigModel → List SocketCall
@@ -72,16 +91,12 @@ binds_of config = map (bind_of config) (ports_of config)
 
 -- they are watched, one after another
 abbrev pub watches_of : ConfigModel → List SocketCall
-watches_of config = map watch_of (ports_of config)
+watches_of config = map (watch_of config) (ports_of config)
 
--- the ports of the network alone: those of process data and of message data
-abbrev pub network_ports : List Port
-network_ports = Pd ∷ Md ∷ []
-
--- their sockets are bound
+-- the sockets of the network's ports alone are bound
 abbrev pub network_binds_of : ConfigModel → List SocketCall
-network_binds_of config = map (bind_of config) network_ports
+network_binds_of config = map (bind_of config) (network_ports config)
 
 -- they are watched
-abbrev pub network_watches : List SocketCall
-network_watches = map watch_of network_ports
+abbrev pub network_watches_of : ConfigModel → List SocketCall
+network_watches_of config = map (watch_of config) (network_ports config)

@@ -8,7 +8,8 @@ use Rattle.trdp_model.specs.NodeModels.{NodeModel, opened_model}
 use Rattle.trdp_model.specs.Slots.{slot_limit}
 use Rattle.trdp_daemon.specs.declared.contact.Contact.{Contact}
 use Rattle.trdp_daemon.specs.declared.port.Port.{Port}
-use Rattle.trdp_daemon.specs.declared.port.Port.TheVariants.{Pd, Md, Operator, Control}
+use Rattle.trdp_daemon.specs.declared.port.Port.TheVariants.{Pd, Md, PdGroup, MdGroup}
+use Rattle.trdp_daemon.specs.declared.port.Port.TheVariants.{Operator, Control}
 use Rattle.trdp_daemon.specs.declared.totals.Totals.{Totals}
 use Rattle.trdp_daemon.specs.Told.{Taking, Offer}
 use Rattle.trdp_daemon.specs.Effects.{ServiceState, Effect, Loss, TextsLost, still, then_effect}
@@ -82,6 +83,8 @@ with_room port = (port, take_room)
 abbrev pub is_there : NodeModel → Port → Bool
 is_there node Pd = true
 is_there node Md = true
+is_there node (PdGroup group) = true
+is_there node (MdGroup group) = true
 is_there node Operator = true
 is_there node (Control slot) = nat_lt slot (length node.slots)
 

@@ -3,6 +3,7 @@ use Rattle.std.specs.Prelude.{◌≡◌, ℕ, List, [], ◌++◌, length, codes,
 use Rattle.std.specs.Prelude.{Option, Some, None, option_map, Result, Ok, Err, if◌then◌else◌}
 use Rattle.trdp_base.specs.declared.place.Place.{Place}
 use Rattle.trdp_model.specs.declared.fault.NodeFault.{NodeFault}
+use Rattle.trdp_model.specs.declared.record.Protocol.{Protocol}
 use Rattle.trdp_model.specs.declared.record.Protocol.TheVariants.{Pd as PdData, Md as MdData}
 use Rattle.trdp_model.specs.Alone.{opened_by, refused_as}
 use Rattle.trdp_model.specs.Events.{EventModel, DatagramIs}
@@ -16,7 +17,8 @@ use Rattle.trdp_script.specs.PortLines.{control_line_of, operator_line_of}
 use Rattle.trdp_script.specs.declared.operator_line.Question.{Question}
 use Rattle.trdp_daemon.specs.declared.contact.Contact.{Contact}
 use Rattle.trdp_daemon.specs.declared.port.Port.{Port}
-use Rattle.trdp_daemon.specs.declared.port.Port.TheVariants.{Pd, Md, Operator, Control}
+use Rattle.trdp_daemon.specs.declared.port.Port.TheVariants.{Pd, Md, PdGroup, MdGroup}
+use Rattle.trdp_daemon.specs.declared.port.Port.TheVariants.{Operator, Control}
 use Rattle.trdp_daemon.specs.declared.totals.Totals.{Totals}
 use Rattle.trdp_daemon.specs.Leases.{ended_effect, quiet_effect}
 use Rattle.trdp_daemon.specs.Ports.{place_of_port}
@@ -123,19 +125,29 @@ control_effect service slot from (Ok None) loss = still (heard_from service slot
 control_effect service slot from (Ok (Some event)) loss =
     control_event service slot from event loss
 
+-- a telegram that came to a port went to the place of that port
+abbrev pub telegram_effect : ServiceState → Protocol → Port → Place → List ℕ → Loss → Effect
+telegram_effect service protocol port from bytes loss = event_effect service
+    (DatagramIs protocol from (place_of_port service.node.config port) bytes) loss
+
 -- a datagram at a port, where these are the totals
 unfoldable pub datagram_effect : ServiceState → Totals → Port → Place → List ℕ → Loss → Effect
-datagram_effect service totals Pd from bytes loss = event_effect service (DatagramIs PdData from
-    (place_of_port service.node.config Pd) bytes) loss
-datagram_effect service totals Md from bytes loss = event_effect service (DatagramIs MdData from
-    (place_of_port service.node.config Md) bytes) loss
+datagram_effect service totals Pd from bytes loss =
+    telegram_effect service PdData Pd from bytes loss
+datagram_effect service totals Md from bytes loss =
+    telegram_effect service MdData Md from bytes loss
+datagram_effect service totals (PdGroup group) from bytes loss =
+    telegram_effect service PdData (PdGroup group) from bytes loss
+datagram_effect service totals (MdGroup group) from bytes loss =
+    telegram_effect service MdData (MdGroup group) from bytes loss
 datagram_effect service totals Operator from bytes loss =
     operator_effect service from totals (operator_line_of bytes) loss
 datagram_effect service totals (Control slot) from bytes loss =
     control_effect service slot from (control_line_of slot bytes) loss
 
 -- the same where it may stand for the end of the application at its place
-abbrev pub came_effect : (ended : Bool) → ServiceState → Totals → Port → Place → List ℕ → Loss → Effect
+abbrev pub came_effect : (ended : Bool) → ServiceState → Totals → Port → Place → List ℕ → Loss
+    → Effect
 came_effect true service totals port from bytes loss = ended_effect service port loss
 came_effect false service totals port from bytes loss =
     datagram_effect service totals port from bytes loss

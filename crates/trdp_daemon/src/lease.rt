@@ -32,7 +32,7 @@ impl Service {
     pub(crate) fn is_silent_at(&self, port: Port) -> bool {
         match port {
             Port::Control(slot) => self.is_silent(slot),
-            Port::Pd | Port::Md | Port::Operator => false,
+            Port::Pd | Port::Md | Port::PdGroup(_) | Port::MdGroup(_) | Port::Operator => false,
         }
     }
 

@@ -57,6 +57,7 @@ mod clock;
 mod contact;
 mod daemon;
 mod fault;
+mod groups;
 mod home;
 mod laws;
 mod lease;
@@ -90,6 +91,7 @@ pub use bind_fault::BindFault;
 pub use clock::Clock;
 pub use daemon::Daemon;
 pub use fault::{WireFault, fail};
+pub use groups::Groups;
 pub use laws::{
     an_end_tells_nobody, each_port_is_taken_from, lost_only_where_memory_is_taken, nothing_missed,
     silence_resets_once,
@@ -104,7 +106,6 @@ pub use refusal::Refusal;
 pub use resting_wire::RestingWire;
 pub use rows::Rest;
 pub use run_clock::RunClock;
-pub use seats::socket_of;
 pub use socket_fault::SocketFault;
 pub use sockets::Sockets;
 pub use system_sockets::SystemSockets;

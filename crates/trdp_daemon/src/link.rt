@@ -58,6 +58,7 @@ impl<W: Wire> Link<W> {
         ensures within { IfOk result (λ found. IfSome found (λ f. f.1 ≤ length room.new)) }
         ensures takes { Carries W.takings W.gives self.old self.new
             (taking_of port (W.ended self.new.wire port) result room.new ∷ []) silence }
+        ensures asked { self.new.asked ≡ self.old.asked }
     {
         self.renew(port, anew);
         let taken = self.wire.take(port, room);
@@ -86,7 +87,9 @@ impl<W: Wire> Link<W> {
 
     /// Offers a datagram to the wire. One at which the wire fails is counted, and lost.
     pub(crate) fn give(&mut self, port: Port, to: Place, bytes: &[u8])
-        ensures { Carries W.takings W.gives self.old self.new [] (offering port to bytes.now) }
+        ensures carried { Carries W.takings W.gives self.old self.new []
+            (offering port to bytes.now) }
+        ensures asked { self.new.asked ≡ self.old.asked }
     {
         let given = self.wire.give(port, to, bytes);
         count_give(&mut self.totals, given.is_err());
@@ -106,7 +109,8 @@ impl<W: Wire> Link<W> {
 
     /// Counts something that was lost for want of memory.
     pub(crate) fn miss(&mut self)
-        ensures { Carries W.takings W.gives self.old self.new [] missing }
+        ensures carried { Carries W.takings W.gives self.old self.new [] missing }
+        ensures asked { self.new.asked ≡ self.old.asked }
     {
         self.totals.memory = one_more(self.totals.memory);
     }

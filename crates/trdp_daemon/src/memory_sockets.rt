@@ -17,8 +17,8 @@ use trdp_base::{Ip, Place};
 /// One call of sockets in memory; the first number is the socket's.
 #[derive(Debug, PartialEq, Eq, Drop)]
 pub enum SocketRow {
-    /// It was bound at a place.
-    Bound(usize, Place),
+    /// It was bound at a place, with the time to live of what it sends, if one was named.
+    Bound(usize, Place, Option<u8>),
     /// With room for so many bytes a take found nothing, or where a datagram came from and the
     /// bytes of it that had room.
     Taken(usize, usize, Option<(Place, Vec<u8>)>),
@@ -161,8 +161,8 @@ impl MemorySockets {
 impl Sockets for MemorySockets {
     ghost calls = { told_calls };
 
-    fn bind(&mut self, socket: usize, place: Place) -> Result<(), BindFault> {
-        self.note(Ok(SocketRow::Bound(socket, place)));
+    fn bind(&mut self, socket: usize, place: Place, ttl: Option<u8>) -> Result<(), BindFault> {
+        self.note(Ok(SocketRow::Bound(socket, place, ttl)));
         Ok(())
     }
 

@@ -3,15 +3,16 @@
 
 ghost use Rattle.std.specs.Prelude.{◌<◌, ◌≤◌, ◌∷◌, [], ◌++◌, length, map, slice_get, unwrap_or};
 ghost use Rattle.trdp_daemon.specs.Openings.{request_of};
-ghost use Rattle.trdp_daemon.specs.Ports.{control_numbers, port_unless_0, ports_of};
+ghost use Rattle.trdp_daemon.specs.Ports.{control_numbers, network_ports, port_unless_0, ports_of};
 ghost use Rattle.trdp_daemon.specs.declared.port.Port.TheVariants.{Control};
 ghost use Rattle.trdp_daemon.specs.Sockets.{MadeInTurn, binds_of, fault_of, watches_of};
-ghost use Rattle.trdp_daemon.specs.Sockets.{network_binds_of, network_ports, network_watches};
+ghost use Rattle.trdp_daemon.specs.Sockets.{network_binds_of, network_watches_of};
 
 use crate::bind_fault::BindFault;
+use crate::groups::Groups;
 use crate::port::Port;
 use crate::ports::{control_number, slot_number};
-use crate::seats::{place_of_port, socket_of};
+use crate::seats::{place_of_port, ttl_of};
 use crate::sockets::Sockets;
 use std::alloc::Global;
 use trdp_dataset::NodeConfig;
@@ -53,7 +54,7 @@ pub(crate) fn bind_and_watch_ports<S: Sockets>(
     ask_for_ports(sockets, config, PortRequest::Watch(alloc))
 }
 
-/// Binds the sockets of process data and message data.
+/// Binds the sockets of process data and message data, at the node's address and at the groups'.
 ///
 /// # Errors
 /// At the first one that is refused: its fault.
@@ -67,8 +68,8 @@ pub(crate) fn bind_network<S: Sockets>(
     ask_for_network(sockets, config, PortRequest::Bind)
 }
 
-/// Binds the sockets of process data and message data, and then has waits end when a datagram comes
-/// at one of them.
+/// Binds the sockets of process data and message data, at the node's address and at the groups', and
+/// then has waits end when a datagram comes at one of them.
 ///
 /// # Errors
 /// At the first call that is refused: its fault.
@@ -77,14 +78,15 @@ pub(crate) fn bind_and_watch_network<S: Sockets>(
     alloc: Global,
     config: &NodeConfig,
 ) -> Result<(), BindFault>
-    ensures { MadeInTurn (network_binds_of config.now ++ network_watches) (fault_of result)
+    ensures { MadeInTurn
+        (network_binds_of config.now ++ network_watches_of config.now) (fault_of result)
         (S.calls sockets.old) (S.calls sockets.new) }
 {
     bind_network(sockets, config)?;
     ask_for_network(sockets, config, PortRequest::Watch(alloc))
 }
 
-/// Asks the same for the port of process data, and then for that of message data.
+/// Asks the same for each port at which telegrams come, in the order of a turn.
 ///
 /// # Errors
 /// At the first one that is refused: its fault.
@@ -93,11 +95,38 @@ fn ask_for_network<S: Sockets>(
     config: &NodeConfig,
     request: PortRequest,
 ) -> Result<(), BindFault>
-    ensures { MadeInTurn (map (request_of config.now request) network_ports)
+    ensures { MadeInTurn (map (request_of config.now request) (network_ports config.now))
         (fault_of result) (S.calls sockets.old) (S.calls sockets.new) }
 {
-    ask(sockets, config, request, Port::Pd)?;
-    ask(sockets, config, request, Port::Md)
+    ask_for_two(sockets, config, request, Port::Pd, Port::Md)?;
+    for group in config.groups() {
+        ask_for_two(
+            sockets,
+            config,
+            request,
+            Port::PdGroup(*group),
+            Port::MdGroup(*group),
+        )?;
+    }
+    Ok(())
+}
+
+/// Asks the same for a port, and then for another.
+///
+/// # Errors
+/// At the first one that is refused: its fault.
+fn ask_for_two<S: Sockets>(
+    sockets: &mut S,
+    config: &NodeConfig,
+    request: PortRequest,
+    first: Port,
+    second: Port,
+) -> Result<(), BindFault>
+    ensures { MadeInTurn (map (request_of config.now request) (first ∷ second ∷ []))
+        (fault_of result) (S.calls sockets.old) (S.calls sockets.new) }
+{
+    ask(sockets, config, request, first)?;
+    ask(sockets, config, request, second)
 }
 
 /// Asks the same for each port that a configuration names, in the order of a turn.
@@ -186,8 +215,11 @@ fn ask<S: Sockets>(
     ensures { MadeInTurn (request_of config.now request port ∷ []) (fault_of result)
         (S.calls sockets.old) (S.calls sockets.new) }
 {
+    let socket = Groups::of(config).socket_of(port);
     match request {
-        PortRequest::Bind => sockets.bind(socket_of(port), place_of_port(config, port)),
-        PortRequest::Watch(alloc) => sockets.watch(alloc, socket_of(port)),
+        PortRequest::Bind => {
+            sockets.bind(socket, place_of_port(config, port), ttl_of(config, port))
+        }
+        PortRequest::Watch(alloc) => sockets.watch(alloc, socket),
     }
 }

@@ -10,6 +10,10 @@ pub enum Port {
     Pd,
     /// Message data (IEC 61375-2-3).
     Md,
+    /// Process data at the address of a group, in host order (IEC 61375-2-3).
+    PdGroup(u32),
+    /// Message data at the address of a group, in host order (IEC 61375-2-3).
+    MdGroup(u32),
     /// The operator's lines (profile).
     Operator,
     /// The lines of the application in the slot of that number, from 0 (profile).

@@ -2,7 +2,8 @@
 
 ghost use Rattle.std.specs.Prelude.{◌≡◌, ◌<◌, ◌≤◌, ◌+◌, ◌++◌, drop, length, IfOk, OnOk};
 ghost use Rattle.std.specs.Prelude.{slice_get};
-ghost use Rattle.trdp_daemon.specs.Ports.{control_numbers, control_ports, port_unless_0, ports_of};
+ghost use Rattle.trdp_daemon.specs.Ports.{control_numbers, control_ports, group_ports};
+ghost use Rattle.trdp_daemon.specs.Ports.{port_unless_0, ports_of};
 
 use crate::port::Port;
 use std::alloc::{AllocError, Global};
@@ -16,11 +17,23 @@ pub(crate) fn ports_of(alloc: Global, config: &NodeConfig) -> Result<Vec<Port>, 
     ensures { IfOk result (λ ports. ports.items ≡ ports_of config.now) }
 {
     let mut ports = vec![in alloc; Port::Pd, Port::Md]?;
+    push_groups(&mut ports, config.groups())?;
     push_unless_0(&mut ports, config.operator_port(), Port::Operator)?;
     for slot in 0..config.slots() + config.spare_control_ports() {
         push_control(&mut ports, config, slot)?;
     }
     Ok(ports)
+}
+
+/// Adds the ports of these groups, two for each.
+fn push_groups(ports: &mut Vec<Port>, groups: &[u32]) -> Result<(), AllocError>
+    ensures { OnOk result (ports.new.items ≡ ports.old.items ++ group_ports groups.now) }
+{
+    for group in groups.iter() {
+        ports.push(Port::PdGroup(*group))?;
+        ports.push(Port::MdGroup(*group))?;
+    }
+    Ok(())
 }
 
 /// The number of the control port of a slot: of one that the configuration has, or of one that is

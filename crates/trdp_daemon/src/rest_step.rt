@@ -1,7 +1,7 @@
 //! What a rest comes to.
 
 ghost use Rattle.std.specs.Prelude.{◌≡◌};
-ghost use Rattle.trdp_daemon.specs.RestSteps.{busy_step, idle_step, left_after, rest_left, step_of};
+ghost use Rattle.trdp_daemon.specs.RestSteps.{busy_step, idle_step, is_rest, rest_left, step_of};
 ghost use Rattle.trdp_daemon.specs.RestSteps.{wait_in};
 
 /// How much earlier than asked a wait ends, in microseconds: the system comes late.
@@ -9,9 +9,6 @@ const WAKE_TIME: u64 = 200;
 
 /// How many microseconds the system counts its waits by.
 const WAIT_STEP: u64 = 1_000;
-
-/// How many turns without a rest there are between two at which the system is asked for news.
-pub(crate) const TURNS_BETWEEN: u32 = 15;
 
 /// What a rest comes to.
 #[derive(Clone, Copy)]
@@ -28,26 +25,25 @@ pub(crate) enum RestStep {
 
 impl RestStep {
     /// The step of a rest of at most so many microseconds, where something was heard since the rest
-    /// before or not, and so many turns without a rest are left before the system is asked for
-    /// news.
+    /// before or not, and a turn without a rest goes on without asking the system for news or not.
     #[tactic(auto, unfolding(crate::specs::RestSteps::step_of))]
-    pub(crate) fn of(heard: bool, most: u64, left: u32) -> RestStep
-        ensures { result ≡ step_of heard most left }
+    pub(crate) fn of(heard: bool, most: u64, goes_on: bool) -> RestStep
+        ensures { result ≡ step_of heard most goes_on }
     {
         if heard || most == 0 {
-            busy_step(left)
+            busy_step(goes_on)
         } else {
             idle_step(most)
         }
     }
 
-    /// How many turns without a rest are left behind this step, where so many were before.
-    pub(crate) fn left_after(self, left: u32) -> u32
-        ensures { result ≡ left_after self left }
+    /// Whether it is a rest: a sleep or a wait.
+    pub(crate) fn is_rest(self) -> bool
+        ensures { result ≡ is_rest self }
     {
         match self {
-            RestStep::GoOn => left.saturating_sub(1),
-            RestStep::Look | RestStep::Sleep(_) | RestStep::Wait(_) => TURNS_BETWEEN,
+            RestStep::GoOn | RestStep::Look => false,
+            RestStep::Sleep(_) | RestStep::Wait(_) => true,
         }
     }
 
@@ -74,14 +70,14 @@ pub(crate) fn rest_left(ended: Option<u64>, began: u64, most: u64) -> u64
     }
 }
 
-/// The step of a turn without a rest.
-fn busy_step(left: u32) -> RestStep
-    ensures { result ≡ busy_step left }
+/// The step of a turn without a rest, which goes on without asking the system for news or not.
+fn busy_step(goes_on: bool) -> RestStep
+    ensures { result ≡ busy_step goes_on }
 {
-    if left == 0 {
-        RestStep::Look
-    } else {
+    if goes_on {
         RestStep::GoOn
+    } else {
+        RestStep::Look
     }
 }
 

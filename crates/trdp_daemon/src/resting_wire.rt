@@ -6,19 +6,19 @@ ghost use Rattle.trdp_daemon.specs.News.{has_news};
 ghost use Rattle.trdp_daemon.specs.RestSteps.{is_breathless};
 ghost use Rattle.trdp_daemon.specs.RestingWires.{RestsSo, TakesIfNews};
 ghost use Rattle.trdp_daemon.specs.Sockets.{MadeInTurn, binds_of, watches_of};
-ghost use Rattle.trdp_daemon.specs.Sockets.{network_binds_of, network_watches, socket_of};
+ghost use Rattle.trdp_daemon.specs.Sockets.{network_binds_of, network_watches_of, socket_of};
 ghost use Rattle.trdp_daemon.specs.SocketWires.{GivesAtSocket};
 
 use crate::bind_fault::BindFault;
 use crate::clock::Clock;
 use crate::fault::WireFault;
+use crate::groups::Groups;
 use crate::news::{has_news, set_news};
 use crate::opening::{bind_and_watch_network, bind_and_watch_ports};
 use crate::port::Port;
 use crate::refusal::Refusal;
-use crate::rest_step::{RestStep, TURNS_BETWEEN, rest_left};
+use crate::rest_step::{RestStep, rest_left};
 use crate::run_clock::RunClock;
-use crate::seats::socket_of;
 use crate::sockets::Sockets;
 use crate::system_sockets::{SOCKETS_MAX, SystemSockets};
 use crate::udp_wire::UdpWire;
@@ -46,7 +46,7 @@ const BREATH: u64 = 50;
 /// are news of each port. They end at a take that found nothing. What arrives before that take is
 /// found by it; what arrives behind it is an edge, which the next wait tells, whether it had begun
 /// before or not; and what the system tells twice is taken once. A wait comes in each rest that
-/// isn't cut short, and in each sixteenth turn that has none.
+/// isn't cut short, and in each turn that has none but the first behind a rest.
 #[derive(Drop)]
 pub struct RestingWire<S, C> {
     /// The ports.
@@ -57,8 +57,9 @@ pub struct RestingWire<S, C> {
     pub(crate) news: [bool; SOCKETS_MAX],
     /// Whether something came or failed at a take since the latest rest.
     pub(crate) heard: bool,
-    /// How many turns without a rest are left before the system is asked for news.
-    pub(crate) left: u32,
+    /// Whether a turn without a rest goes on without asking the system for news: the first behind a
+    /// rest does, so that what comes alone costs no call more.
+    pub(crate) goes_on: bool,
     /// The reading of the clock when news were asked for the first time without a rest; None where
     /// none were since the latest rest.
     pub(crate) busy: Option<u64>,
@@ -120,7 +121,7 @@ impl<S: Sockets, C: Clock + Drop> RestingWire<S, C> {
     ghost use Rattle.trdp_daemon.specs.RestSteps.{Breathes, PausesSo};
     ghost use Rattle.std.specs.Prelude.{◌≡◌, ◌++◌, IfOk, IfErr, None, Some};
     ghost use Rattle.trdp_daemon.specs.Sockets.{MadeInTurn, binds_of, watches_of};
-    ghost use Rattle.trdp_daemon.specs.Sockets.{network_binds_of, network_watches};
+    ghost use Rattle.trdp_daemon.specs.Sockets.{network_binds_of, network_watches_of};
     ghost use Rattle.trdp_daemon.specs.RestingWires.{IsFresh};
 
     /// Binds sockets at the ports that a configuration names, as [`UdpWire::open`] does, and then
@@ -140,10 +141,11 @@ impl<S: Sockets, C: Clock + Drop> RestingWire<S, C> {
         ensures refused { IfErr result (λ back. MadeInTurn
             (binds_of config.now ++ watches_of config.now) (Some back.0)
             (S.calls sockets) (S.calls back.1)) }
+        ensures groups { IfOk result (λ wire. wire.wire.groups ≡ config.now.groups) }
         ensures fresh { IfOk result (λ wire. IsFresh clock wire) }
     {
         match bind_and_watch_ports(&mut sockets, alloc, config) {
-            Ok(()) => Ok(RestingWire::over(sockets, clock)),
+            Ok(()) => Ok(RestingWire::over(sockets, Groups::of(config), clock)),
             Err(fault) => Err((fault, sockets)),
         }
     }
@@ -160,31 +162,33 @@ impl<S: Sockets, C: Clock + Drop> RestingWire<S, C> {
         config: &NodeConfig,
     ) -> Result<RestingWire<S, C>, (BindFault, S)>
         ensures bound { IfOk result (λ wire. MadeInTurn
-            (network_binds_of config.now ++ network_watches) None
+            (network_binds_of config.now ++ network_watches_of config.now) None
             (S.calls sockets) (S.calls wire.wire.sockets)) }
         ensures refused { IfErr result (λ back. MadeInTurn
-            (network_binds_of config.now ++ network_watches) (Some back.0)
+            (network_binds_of config.now ++ network_watches_of config.now) (Some back.0)
             (S.calls sockets) (S.calls back.1)) }
+        ensures groups { IfOk result (λ wire. wire.wire.groups ≡ config.now.groups) }
         ensures fresh { IfOk result (λ wire. IsFresh clock wire) }
     {
         match bind_and_watch_network(&mut sockets, alloc, config) {
-            Ok(()) => Ok(RestingWire::over(sockets, clock)),
+            Ok(()) => Ok(RestingWire::over(sockets, Groups::of(config), clock)),
             Err(fault) => Err((fault, sockets)),
         }
     }
 
     /// A wire over sockets that are bound and watched, before its first take: something may be at
     /// each.
-    fn over(sockets: S, clock: C) -> RestingWire<S, C>
+    fn over(sockets: S, groups: Groups, clock: C) -> RestingWire<S, C>
         ensures sockets { result.wire.sockets ≡ sockets }
+        ensures groups { result.wire.groups ≡ groups }
         ensures fresh { IsFresh clock result }
     {
         RestingWire {
-            wire: UdpWire::over(sockets),
+            wire: UdpWire::over(sockets, groups),
             clock,
             news: [true; SOCKETS_MAX],
             heard: false,
-            left: TURNS_BETWEEN,
+            goes_on: true,
             busy: None,
             rested: None,
         }
@@ -212,7 +216,7 @@ impl<S: Sockets, C: Clock + Drop> RestingWire<S, C> {
         ensures wire { self.new.wire ≡ self.old.wire }
         ensures news { self.new.news ≡ self.old.news }
         ensures heard { self.new.heard ≡ self.old.heard }
-        ensures left { self.new.left ≡ self.old.left }
+        ensures goes_on { self.new.goes_on ≡ self.old.goes_on }
     {
         match step {
             RestStep::GoOn => {}
@@ -234,7 +238,7 @@ impl<S: Sockets, C: Clock + Drop> RestingWire<S, C> {
         ensures wire { self.new.wire ≡ self.old.wire }
         ensures news { self.new.news ≡ self.old.news }
         ensures heard { self.new.heard ≡ self.old.heard }
-        ensures left { self.new.left ≡ self.old.left }
+        ensures goes_on { self.new.goes_on ≡ self.old.goes_on }
     {
         if is_breathless(self.busy, reading) {
             self.clock.sleep(BREATH);
@@ -252,14 +256,15 @@ impl<S: Sockets, C: Clock + Drop> Wire for RestingWire<S, C> {
 
     ghost faults = { λ wire. wire.wire.failures };
 
-    ghost news = { λ wire port. has_news wire.news (socket_of port) };
+    ghost news = { λ wire port. has_news wire.news (socket_of wire.wire.groups port) };
 
     ghost ended = { λ _ _ _. false };
 
     fn take(&mut self, port: Port, room: &mut [u8]) -> Result<Option<(Place, usize)>, WireFault>
         ensures within { IfOk result (λ found. IfSome found (λ f. f.1 ≤ length room.new)) }
         ensures fault { OnErr result (self.old.wire.failures < self.new.wire.failures) }
-        ensures takes { TakesIfNews (has_news self.old.news (socket_of port)) S.calls
+        ensures takes { TakesIfNews
+            (has_news self.old.news (socket_of self.old.wire.groups port)) S.calls
             self.old self.new port room.new result }
         ensures refusal { self.new.wire.refusal ≡ self.old.wire.refusal }
     {
@@ -277,12 +282,13 @@ impl<S: Sockets, C: Clock + Drop> Wire for RestingWire<S, C> {
 
     fn give(&mut self, port: Port, to: Place, bytes: &[u8]) -> Result<(), WireFault>
         ensures fault { OnErr result (self.old.wire.failures < self.new.wire.failures) }
-        ensures gives { GivesAtSocket (S.calls self.old.wire.sockets)
+        ensures gives { GivesAtSocket self.old.wire.groups (S.calls self.old.wire.sockets)
             (S.calls self.new.wire.sockets) port to bytes.now result
             self.old.wire.failures self.new.wire.failures
             self.old.wire.refusal self.new.wire.refusal }
         ensures heard { self.new.heard ≡ self.old.heard }
         ensures news { self.new.news ≡ self.old.news }
+        ensures groups { self.new.wire.groups ≡ self.old.wire.groups }
     {
         self.wire.give(port, to, bytes)
     }
@@ -290,14 +296,16 @@ impl<S: Sockets, C: Clock + Drop> Wire for RestingWire<S, C> {
     fn rest(&mut self, most: u64)
         ensures fault { self.new.wire.failures ≡ self.old.wire.failures }
         ensures rests { RestsSo S.calls C.readings C.sleeps self.old self.new most }
+        ensures groups { self.new.wire.groups ≡ self.old.wire.groups }
         ensures refusal { self.new.wire.refusal ≡ self.old.wire.refusal }
     {
         // A rest is asked for from the reading of its turn on, which was taken where the rest before
         // ended: the turn has used some of it.
         let began = self.clock.now();
-        let step = RestStep::of(self.heard, rest_left(self.rested, began, most), self.left);
+        let left = rest_left(self.rested, began, most);
+        let step = RestStep::of(self.heard, left, self.goes_on);
         self.heard = false;
-        self.left = step.left_after(self.left);
+        self.goes_on = step.is_rest();
         self.pause(step, began);
         if let Some(millis) = step.wait() {
             self.wire.sockets.wait(millis, &mut self.news);
@@ -306,9 +314,9 @@ impl<S: Sockets, C: Clock + Drop> Wire for RestingWire<S, C> {
     }
 
     fn has_news(&self, port: Port) -> bool
-        ensures { result ≡ has_news self.now.news (socket_of port) }
+        ensures { result ≡ has_news self.now.news (socket_of self.now.wire.groups port) }
     {
-        has_news(&self.news, socket_of(port))
+        has_news(&self.news, self.wire.groups.socket_of(port))
     }
 
     fn has_ended(&self, _port: Port, _place: Place) -> bool {
@@ -316,14 +324,15 @@ impl<S: Sockets, C: Clock + Drop> Wire for RestingWire<S, C> {
     }
 
     fn set_news(&mut self, port: Port, may_be: bool)
-        ensures news { self.new.news ≡ slice_set self.old.news (socket_of port) may_be }
+        ensures news { self.new.news
+            ≡ slice_set self.old.news (socket_of self.old.wire.groups port) may_be }
         ensures wire { self.new.wire ≡ self.old.wire }
         ensures clock { self.new.clock ≡ self.old.clock }
         ensures heard { self.new.heard ≡ self.old.heard }
-        ensures left { self.new.left ≡ self.old.left }
+        ensures goes_on { self.new.goes_on ≡ self.old.goes_on }
         ensures busy { self.new.busy ≡ self.old.busy }
     {
-        set_news(&mut self.news, socket_of(port), may_be);
+        set_news(&mut self.news, self.wire.groups.socket_of(port), may_be);
     }
 
     fn failures(&self) -> u64 {

@@ -1,29 +1,16 @@
-//! Which socket a port has, and where it is bound.
+//! Where the socket of a port is bound, and how far what it sends goes.
 
 ghost use Rattle.std.specs.Prelude.{◌≡◌};
-ghost use Rattle.trdp_daemon.specs.Ports.{place_of_port};
-ghost use Rattle.trdp_daemon.specs.Sockets.{socket_of};
+ghost use Rattle.trdp_daemon.specs.Ports.{group_place, place_of_port};
+ghost use Rattle.trdp_daemon.specs.Sockets.{ttl_of};
 
 use crate::port::Port;
 use crate::ports::control_number;
-use trdp_base::Place;
+use trdp_base::{Ip, Place};
 use trdp_dataset::NodeConfig;
 
-/// The number of a port's socket, by which news are told of it too: those of control ports stand
-/// behind the three others.
-pub fn socket_of(port: Port) -> usize
-    ensures { result ≡ socket_of port }
-{
-    match port {
-        Port::Pd => 0,
-        Port::Md => 1,
-        Port::Operator => 2,
-        Port::Control(slot) => 3 + usize::from(slot),
-    }
-}
-
-/// Where the socket of a port is bound: at the node's address or, where lines come to it, at the
-/// control address; at number 0 where the configuration names none.
+/// Where the socket of a port is bound: at the node's address or a group's or, where lines come to
+/// it, at the control address; at number 0 where the configuration names none.
 pub(crate) fn place_of_port(config: &NodeConfig, port: Port) -> Place
     ensures { result ≡ place_of_port config.now port }
 {
@@ -32,6 +19,8 @@ pub(crate) fn place_of_port(config: &NodeConfig, port: Port) -> Place
     let (ip, port) = match port {
         Port::Pd => (own, config.pd_port()),
         Port::Md => (own, config.md_port()),
+        Port::PdGroup(group) => (Ip(group), config.pd_port()),
+        Port::MdGroup(group) => (Ip(group), config.md_port()),
         Port::Operator => (control, config.operator_port()),
         Port::Control(slot) => {
             let number = control_number(config, usize::from(slot));
@@ -39,4 +28,24 @@ pub(crate) fn place_of_port(config: &NodeConfig, port: Port) -> Place
         }
     };
     Place { ip, port }
+}
+
+/// The place of a group's address, in host order, and a port of that number.
+pub(crate) fn group_place(group: u32, port: u16) -> Place
+    ensures { result ≡ group_place group port }
+{
+    Place {
+        ip: Ip(group),
+        port,
+    }
+}
+
+/// The time to live of the telegrams that leave from a port; None where none do.
+pub(crate) fn ttl_of(config: &NodeConfig, port: Port) -> Option<u8>
+    ensures { result ≡ ttl_of config.now port }
+{
+    match port {
+        Port::Pd | Port::Md => Some(config.ttl()),
+        Port::PdGroup(_) | Port::MdGroup(_) | Port::Operator | Port::Control(_) => None,
+    }
 }

@@ -25,6 +25,7 @@ use crate::link::Link;
 use crate::lists::Lists;
 use crate::port::Port;
 use crate::question::put_answer;
+use crate::seats::group_place;
 use crate::telling::tell_records;
 use crate::wire::Wire;
 use std::alloc::{AllocError, Global};
@@ -182,6 +183,14 @@ impl Service {
         match port {
             Port::Pd => self.take_telegram(Protocol::Pd, from, self.home.pd, bytes, link),
             Port::Md => self.take_telegram(Protocol::Md, from, self.home.md, bytes, link),
+            Port::PdGroup(group) => {
+                let to = group_place(group, self.home.pd.port);
+                self.take_telegram(Protocol::Pd, from, to, bytes, link);
+            }
+            Port::MdGroup(group) => {
+                let to = group_place(group, self.home.md.port);
+                self.take_telegram(Protocol::Md, from, to, bytes, link);
+            }
             Port::Operator => self.take_operator(from, bytes, link),
             Port::Control(slot) => self.take_control(buffer, slot, from, bytes, link),
         }

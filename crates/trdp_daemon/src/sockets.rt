@@ -19,13 +19,14 @@ pub trait Sockets {
     /// What was asked of them, in order, with the answers; none where these sockets don't tell.
     ghost calls: { Self → Option (List SocketCall) };
 
-    /// Binds a socket at a place of this machine.
+    /// Binds a socket at a place of this machine; where there is a time to live, what it sends has
+    /// that, to a group too.
     ///
     /// # Errors
     /// `OutOfMemory` where there is no memory for it, and else `Bind`.
-    fn bind(&mut self, socket: usize, place: Place) -> Result<(), BindFault>
+    fn bind(&mut self, socket: usize, place: Place, ttl: Option<u8>) -> Result<(), BindFault>
         ensures { TellsMore (calls self.old) (calls self.new)
-            (Binds socket place (fault_of result) ∷ []) };
+            (Binds socket place ttl (fault_of result) ∷ []) };
 
     /// Takes the next datagram at a socket, if one is there: it is put at the front of the room,
     /// cut to it, and the answer is where it came from and how many bytes it has there.

@@ -24,11 +24,12 @@ use std::time::Duration;
 use std::{array, io};
 use trdp_base::{Ip, Place};
 
-/// The most sockets of a node: three, and the control ports of 16 slots and 15 spare ones.
-pub(crate) const SOCKETS_MAX: usize = 34;
+/// The most sockets of a node: three, the control ports of 16 slots and 15 spare ones, and two of
+/// each of 32 groups.
+pub(crate) const SOCKETS_MAX: usize = 98;
 
 /// How many sources the system tells of at one wait. It is more than a node has, so that one wait
-/// tells of all that came before it: its sockets, or two of these, 32 paths and what is open there.
+/// tells of all that came before it: its sockets, or 66 of these, 32 paths and what is open there.
 const EVENTS: usize = 256;
 
 /// The UDP sockets of the system. They tell nothing.
@@ -79,11 +80,11 @@ impl<'a, R: Net> Sockets for SystemSockets<'a, R> {
 
     ghost calls = { λ _. None };
 
-    fn bind(&mut self, socket: usize, place: Place) -> Result<(), BindFault> {
+    fn bind(&mut self, socket: usize, place: Place, ttl: Option<u8>) -> Result<(), BindFault> {
         let Some(seat) = self.sockets.get_mut(socket) else {
             return Err(BindFault::Bind);
         };
-        match bind_socket(self.rt, place) {
+        match bind_socket(self.rt, place, ttl) {
             Ok(bound) => {
                 *seat = Some(bound);
                 Ok(())
@@ -180,13 +181,18 @@ fn note_events(news: &mut [bool], events: &Events<Global>)
     }
 }
 
-/// A socket at a place, which never waits.
+/// A socket at a place, which never waits. Where there is a time to live, what it sends has that:
+/// the system has one for a single receiver and another for a group.
 ///
 /// # Errors
 /// What the system says to it.
-fn bind_socket<R: Net>(rt: &R, place: Place) -> io::Result<UdpSocket> {
+fn bind_socket<R: Net>(rt: &R, place: Place, ttl: Option<u8>) -> io::Result<UdpSocket> {
     let socket = UdpSocket::bind(rt, SocketAddr::V4(address_of(place)))?;
     socket.set_nonblocking(true)?;
+    if let Some(ttl) = ttl {
+        socket.set_ttl(u32::from(ttl))?;
+        socket.set_multicast_ttl_v4(u32::from(ttl))?;
+    }
     Ok(socket)
 }
 

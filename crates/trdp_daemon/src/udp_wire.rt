@@ -8,10 +8,10 @@ ghost use Rattle.trdp_daemon.specs.SocketWires.{is_answer};
 
 use crate::bind_fault::BindFault;
 use crate::fault::{WireFault, fail};
+use crate::groups::Groups;
 use crate::opening::{bind_network, bind_ports};
 use crate::port::Port;
 use crate::refusal::Refusal;
-use crate::seats::socket_of;
 use crate::sockets::Sockets;
 use crate::system_sockets::SystemSockets;
 use crate::wire::Wire;
@@ -32,6 +32,8 @@ const FAULT_FRONT: &[u8] = b"line fault ";
 pub struct UdpWire<S> {
     /// The sockets of the ports.
     pub(crate) sockets: S,
+    /// The groups of the node, by which each port has its socket.
+    pub(crate) groups: Groups,
     /// How often a take or a give failed, at most 2^64 - 1.
     pub(crate) failures: u64,
     /// The latest give that was refused; None before the first.
@@ -78,8 +80,8 @@ impl<'a, R: Net> UdpWire<SystemSockets<'a, R>> {
 
 impl<S: Sockets> UdpWire<S> {
     /// Binds sockets at the ports that a configuration names, one after another: process data and
-    /// message data at its address, the operator's and the control ports of the slots at its
-    /// control address.
+    /// message data at its address and at those of its groups, the operator's and the control ports
+    /// of the slots at its control address.
     ///
     /// # Errors
     /// At the first port that isn't bound: its fault, and the sockets.
@@ -88,17 +90,18 @@ impl<S: Sockets> UdpWire<S> {
             (S.calls sockets) (S.calls wire.sockets)) }
         ensures refused { IfErr result (λ back. MadeInTurn (binds_of config.now) (Some back.0)
             (S.calls sockets) (S.calls back.1)) }
+        ensures groups { IfOk result (λ wire. wire.groups ≡ config.now.groups) }
         ensures failures { IfOk result (λ wire. wire.failures ≡ 0) }
         ensures refusal { IfOk result (λ wire. wire.refusal ≡ None) }
     {
         match bind_ports(&mut sockets, config) {
-            Ok(()) => Ok(UdpWire::over(sockets)),
+            Ok(()) => Ok(UdpWire::over(sockets, Groups::of(config))),
             Err(fault) => Err((fault, sockets)),
         }
     }
 
     /// Binds sockets at the ports of process data and message data alone, one after another, at the
-    /// address of the configuration.
+    /// address of the configuration and at those of its groups.
     ///
     /// # Errors
     /// As [`UdpWire::open`].
@@ -107,11 +110,12 @@ impl<S: Sockets> UdpWire<S> {
             (S.calls sockets) (S.calls wire.sockets)) }
         ensures refused { IfErr result (λ back. MadeInTurn (network_binds_of config.now)
             (Some back.0) (S.calls sockets) (S.calls back.1)) }
+        ensures groups { IfOk result (λ wire. wire.groups ≡ config.now.groups) }
         ensures failures { IfOk result (λ wire. wire.failures ≡ 0) }
         ensures refusal { IfOk result (λ wire. wire.refusal ≡ None) }
     {
         match bind_network(&mut sockets, config) {
-            Ok(()) => Ok(UdpWire::over(sockets)),
+            Ok(()) => Ok(UdpWire::over(sockets, Groups::of(config))),
             Err(fault) => Err((fault, sockets)),
         }
     }
@@ -124,13 +128,15 @@ impl<S: Sockets> UdpWire<S> {
     }
 
     /// A wire over sockets that are bound, before its first take.
-    pub(crate) fn over(sockets: S) -> UdpWire<S>
+    pub(crate) fn over(sockets: S, groups: Groups) -> UdpWire<S>
         ensures sockets { result.sockets ≡ sockets }
+        ensures groups { result.groups ≡ groups }
         ensures failures { result.failures ≡ 0 }
         ensures refusal { result.refusal ≡ None }
     {
         UdpWire {
             sockets,
+            groups,
             failures: 0,
             refusal: None,
         }
@@ -145,11 +151,13 @@ impl<S: Sockets> UdpWire<S> {
     ) -> (Result<Option<(Place, usize)>, WireFault>, bool)
         ensures within { IfOk result.0 (λ found. IfSome found (λ f. f.1 ≤ length room.new)) }
         ensures fault { OnErr result.0 (self.old.failures < self.new.failures) }
-        ensures takes { TakesAtSocket (S.calls self.old.sockets) (S.calls self.new.sockets)
+        ensures takes { TakesAtSocket self.old.groups
+            (S.calls self.old.sockets) (S.calls self.new.sockets)
             port room.new result.0 self.old.failures self.new.failures result.1 }
+        ensures groups { self.new.groups ≡ self.old.groups }
         ensures refusal { self.new.refusal ≡ self.old.refusal }
     {
-        match self.sockets.take(socket_of(port), room) {
+        match self.sockets.take(self.groups.socket_of(port), room) {
             Ok(None) => (Ok(None), false),
             Ok(Some((from, len))) => {
                 let (bytes, _) = room.split_at(len);
@@ -180,9 +188,10 @@ impl<S: Sockets> Wire for UdpWire<S> {
     fn take(&mut self, port: Port, room: &mut [u8]) -> Result<Option<(Place, usize)>, WireFault>
         ensures within { IfOk result (λ found. IfSome found (λ f. f.1 ≤ length room.new)) }
         ensures fault { OnErr result (self.old.failures < self.new.failures) }
-        ensures takes { (heard : Bool) × TakesAtSocket (S.calls self.old.sockets)
-            (S.calls self.new.sockets) port room.new result self.old.failures self.new.failures
-            heard }
+        ensures takes { (heard : Bool) × TakesAtSocket self.old.groups
+            (S.calls self.old.sockets) (S.calls self.new.sockets)
+            port room.new result self.old.failures self.new.failures heard }
+        ensures groups { self.new.groups ≡ self.old.groups }
         ensures refusal { self.new.refusal ≡ self.old.refusal }
     {
         let (found, _) = self.ask(port, room);
@@ -191,11 +200,13 @@ impl<S: Sockets> Wire for UdpWire<S> {
 
     fn give(&mut self, port: Port, to: Place, bytes: &[u8]) -> Result<(), WireFault>
         ensures fault { OnErr result (self.old.failures < self.new.failures) }
-        ensures gives { GivesAtSocket (S.calls self.old.sockets) (S.calls self.new.sockets)
+        ensures gives { GivesAtSocket self.old.groups
+            (S.calls self.old.sockets) (S.calls self.new.sockets)
             port to bytes.now result self.old.failures self.new.failures
             self.old.refusal self.new.refusal }
+        ensures groups { self.new.groups ≡ self.old.groups }
     {
-        match self.sockets.give(socket_of(port), to, bytes) {
+        match self.sockets.give(self.groups.socket_of(port), to, bytes) {
             Ok(()) => Ok(()),
             Err(fault) => {
                 self.refusal = Some(Refusal { port, to, fault });
@@ -233,7 +244,7 @@ fn is_answer(port: Port, bytes: &[u8]) -> bool
     ensures { result ≡ is_answer port bytes.now }
 {
     match port {
-        Port::Pd | Port::Md => false,
+        Port::Pd | Port::Md | Port::PdGroup(_) | Port::MdGroup(_) => false,
         Port::Operator | Port::Control(_) => begins_as_answer(bytes),
     }
 }

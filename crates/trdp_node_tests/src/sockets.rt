@@ -12,30 +12,39 @@ use trdp_daemon::{
 };
 use trdp_dataset::NodeConfig;
 
-/// A node with an operator's port, one slot, and a spare port for the second of two that may be
-/// added.
+/// A node with a group, an operator's port, one slot, and a spare port for the second of two that
+/// may be added.
 const NODE: &[u8] = b"
 [node]
 address = \"10.0.0.1\"
 control_address = \"127.0.0.1\"
+groups = [\"239.192.0.1\"]
 operator_port = 18100
 spare_control_ports = [0, 18002]
 [[slot]]
 control_port = 18000
 ";
 
-/// The sockets that the node's ports have: process data, message data, the operator's, that of slot
-/// 0 and that of slot 2.
-const SOCKETS: [usize; 5] = [0, 1, 2, 3, 5];
+/// The sockets that the node's ports have: process data and message data, those of the group, the
+/// operator's, that of slot 0 and that of slot 2.
+const SOCKETS: [usize; 7] = [0, 1, 34, 35, 2, 3, 5];
 
 /// Where these are bound.
-static PLACES: [Place; 5] = [
+static PLACES: [Place; 7] = [
     Place {
         ip: Ip(0x0a00_0001),
         port: 17224,
     },
     Place {
         ip: Ip(0x0a00_0001),
+        port: 17225,
+    },
+    Place {
+        ip: Ip(0xefc0_0001),
+        port: 17224,
+    },
+    Place {
+        ip: Ip(0xefc0_0001),
         port: 17225,
     },
     Place {
@@ -116,7 +125,7 @@ fn without_way(port: Port) -> Refusal {
 /// At which sockets `uses` takes and gives, and how many bytes each datagram has.
 const USES: [(usize, usize); 5] = [(0, 0), (1, 16), (2, 16), (3, 5), (1, 7)];
 
-/// A datagram at each of the first four sockets: an empty one, one like an answer, an answer, and a
+/// A datagram at each of four sockets: an empty one, one like an answer, an answer, and a
 /// line.
 fn sockets(alloc: Global) -> Option<MemorySockets> {
     let mut sockets = MemorySockets::new(alloc);
@@ -160,7 +169,7 @@ fn uses<W: Wire>(rt: &(impl Abort + AllocGlobal), wire: &mut W) {
 /// Whether a row says that this socket was bound at that place.
 fn is_bound(row: Option<&SocketRow>, socket: usize, place: Place) -> bool {
     match row {
-        Some(SocketRow::Bound(number, at)) => *number == socket && *at == place,
+        Some(SocketRow::Bound(number, at, _)) => *number == socket && *at == place,
         _ => false,
     }
 }
@@ -206,9 +215,6 @@ type Resting = RestingWire<MemorySockets, MemoryClock>;
 /// comes before the third rest, and none has taken time else.
 const READINGS: [u64; 5] = [7, 7, 7, 7, 407];
 
-/// How many readings 31 rests make, and the beginning of one more.
-const BUSY: usize = 63;
-
 /// A wire that rests over these sockets, with a clock of these readings; None for want of memory.
 fn over(alloc: Global, sockets: MemorySockets, readings: &[u64]) -> Option<Resting> {
     let config = config(alloc)?;
@@ -221,11 +227,9 @@ fn resting(alloc: Global) -> Option<Resting> {
     over(alloc, sockets(alloc)?, &READINGS)
 }
 
-/// The same with a clock that reads 50 milliseconds more from the 32nd rest on.
+/// The same with a clock that reads 50 milliseconds more from the third rest on.
 fn busy(alloc: Global) -> Option<Resting> {
-    let mut readings = [7; BUSY];
-    readings[BUSY - 1] = 50_007;
-    over(alloc, sockets(alloc)?, &readings)
+    over(alloc, sockets(alloc)?, &[7, 7, 7, 7, 50_007])
 }
 
 /// Whether a row says that a wait of so many milliseconds told of these sockets.
@@ -241,9 +245,9 @@ fn works(rt: &(impl Abort + AllocGlobal), wire: &mut UdpWire<MemorySockets>) {
     uses(rt, wire);
     wire.rest(1_000_000);
     let rows = wire.sockets().rows();
-    same(rt, "calls", rows.len(), 10);
+    same(rt, "calls", rows.len(), 12);
     assert_bound(rt, rows);
-    assert_used(rt, rows, 5);
+    assert_used(rt, rows, 7);
 }
 
 /// A wire that rests watches its sockets too, and waits or sleeps where nothing was heard: for what
@@ -254,22 +258,22 @@ fn works_and_rests(rt: &(impl Abort + AllocGlobal), wire: &mut Resting) {
         wire.rest(most);
     }
     let rows = wire.sockets().rows();
-    same(rt, "calls", rows.len(), 18);
+    same(rt, "calls", rows.len(), 22);
     assert_bound(rt, rows);
     for (i, socket) in SOCKETS.iter().enumerate() {
-        let row = rows.get(i.saturating_add(5));
+        let row = rows.get(i.saturating_add(7));
         same(rt, i, row == Some(&SocketRow::Watched(*socket)), true);
     }
-    assert_used(rt, rows, 10);
+    assert_used(rt, rows, 14);
     for (i, millis) in [9, 0, 1].iter().enumerate() {
-        let row = rows.get(i.saturating_add(15));
+        let row = rows.get(i.saturating_add(19));
         same(rt, i, is_wait(row, *millis, &[]), true);
     }
     same(rt, "sleeps", wire.clock().sleeps(), [1_199].as_slice());
 }
 
 /// A wire that rests asks nothing at a port where it found nothing, before the system tells of it.
-/// It asks the system in each sixteenth turn without a rest, and sleeps for a moment where there
+/// It asks the system in each turn without a rest but the first, and sleeps for a moment where there
 /// was none for 50 milliseconds.
 fn asks_where_news_are(rt: &(impl Abort + AllocGlobal), wire: &mut Resting) {
     let mut room = [0; 16];
@@ -277,12 +281,12 @@ fn asks_where_news_are(rt: &(impl Abort + AllocGlobal), wire: &mut Resting) {
         let taken = wire.take(Port::Control(0), &mut room);
         same(rt, "a line", taken != Ok(None), found);
     }
-    for _turn in 0..32 {
+    for _turn in 0..3 {
         wire.rest(0);
     }
     let rows = wire.sockets().rows();
-    same(rt, "calls", rows.len(), 14);
-    for i in [12, 13] {
+    same(rt, "calls", rows.len(), 18);
+    for i in [16, 17] {
         same(rt, i, is_wait(rows.get(i), 0, &[0, 1, 2]), true);
     }
     same(rt, "sleeps", wire.clock().sleeps(), [50].as_slice());

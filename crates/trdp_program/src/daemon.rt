@@ -11,12 +11,13 @@ use crate::options::ServiceOptions;
 use crate::program::CONFIG_STATUS;
 use crate::stream::Stream;
 use crate::told::{tell_config_fault, tell_text};
+use std::alloc::AllocError;
 use std::fs::Files;
 use std::io::Write;
 use std::net::Net;
 use std::time::Clock;
 use trdp_dataset::NodeConfig;
-use trdp_report::{refused_ports, report};
+use trdp_report::{refused_ports, report, unjoined_groups};
 
 /// Serves a node of that configuration (TOML) over the system's sockets until the program is
 /// stopped: binds its UDP ports, and takes turns with rests between them. The line of its totals so
@@ -30,10 +31,10 @@ use trdp_report::{refused_ports, report};
 /// The configuration is looked at first, and then the ports are bound: where it isn't taken,
 /// nothing is written.
 ///
-/// On `errors` stands before what the configuration means and what its author may not have meant,
-/// and while it serves at most once a second what the network refused, and why.
-/// Behind the fault's line stands each fault of a configuration that isn't taken, and else
-/// which ports the system refuses, and why (profile).
+/// On `errors` stands before what the configuration means, what its author may not have meant, and
+/// which of its groups no link has joined; while it serves, at most once a second what the network
+/// refused, and why. Behind the fault's line stands each fault of a configuration that isn't taken,
+/// and else which ports the system refuses, and why (profile).
 ///
 /// The ports for lines are files of a folder, if there is one, and slots begin anew after a lease.
 pub fn report_daemon<H: Files + Net + Clock + AllocGlobal, W: Stream, E: Write>(
@@ -54,7 +55,7 @@ pub fn report_daemon<H: Files + Net + Clock + AllocGlobal, W: Stream, E: Write>(
     let alloc = rt.alloc();
     match NodeConfig::from_toml(alloc, config) {
         Ok(taken) => {
-            tell_text(report(alloc, config, &taken, options.folder), errors);
+            tell_text(first_words(rt, config, &taken, options.folder), errors);
             let status = attend_config(rt, taken, options, seconds, writer, errors);
             tell_ports(rt, config, options.folder, status, errors);
             status
@@ -64,6 +65,23 @@ pub fn report_daemon<H: Files + Net + Clock + AllocGlobal, W: Stream, E: Write>(
             CONFIG_STATUS
         }
     }
+}
+
+/// What a configuration means and what its author may not have meant, and which of its groups no
+/// link has joined.
+///
+/// # Errors
+/// Want of memory.
+fn first_words<H: Files + AllocGlobal>(
+    rt: &H,
+    config: &[u8],
+    taken: &NodeConfig,
+    folder: Option<&str>,
+) -> Result<String, AllocError> {
+    let alloc = rt.alloc();
+    let mut text = report(alloc, config, taken, folder)?;
+    text.push_str(&unjoined_groups(rt, alloc, taken)?)?;
+    Ok(text)
 }
 
 /// Tells which ports of a configuration the system refuses, where a service came to no good end.

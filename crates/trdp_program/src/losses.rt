@@ -116,6 +116,8 @@ impl fmt::Display for PortText {
         match self.0 {
             Port::Pd => f.write_str("process data"),
             Port::Md => f.write_str("message data"),
+            Port::PdGroup(group) => write!(f, "process data of {}", Ipv4Addr::from_bits(group)),
+            Port::MdGroup(group) => write!(f, "message data of {}", Ipv4Addr::from_bits(group)),
             Port::Operator => f.write_str("the operator's port"),
             Port::Control(slot) => write!(f, "the control port of slot {slot}"),
         }

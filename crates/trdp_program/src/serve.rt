@@ -100,8 +100,8 @@ fn serve_options<H: Files + Net + Clock + AllocGlobal, W: Write>(
     ensures ok { OnOk result ((totals : Totals)
         × CountsTurns config (lease_of options.entry.lease) turns totals
         × WritesTotals totals (W.contents writer.old) (W.contents writer.new)) }
-    ensures err { IfErr result (λ fault. WritesNoTotals fault config (lease_of options.entry.lease) turns
-        (W.contents writer.old) (W.contents writer.new)) }
+    ensures err { IfErr result (λ fault. WritesNoTotals fault config
+        (lease_of options.entry.lease) turns (W.contents writer.old) (W.contents writer.new)) }
 {
     let lease = options.lease_time();
     match options.folder {

@@ -4,6 +4,7 @@
 //! ```text
 //! let text = report(alloc, config, &taken, None)?;        // node 10.0.0.1: process data at ..
 //! let text = fault_place(alloc, config, fault)?;          // line 4, node: pd_port = 0: a ..
+//! let text = unjoined_groups(rt, alloc, &taken)?;         // warning: no link has joined ..
 //! let text = refused_ports(rt, alloc, &taken, None)?;     // port 10.0.0.1:17224: ..
 //! ```
 //!
@@ -12,12 +13,14 @@
 //! which place, is shown by tests.
 #![tactic(auto)]
 
+mod groups;
 mod meaning;
 mod ports;
 mod refused;
 mod warnings;
 mod words;
 
+pub use groups::unjoined_groups;
 pub use refused::refused_ports;
 pub use words::report;
 

@@ -22,9 +22,9 @@ pub(crate) fn shown(ip: Ip) -> Ipv4Addr {
     Ipv4Addr::from_bits(ip.0)
 }
 
-/// Adds what a configuration means: a line for the node, one for each slot, one for the spare
-/// control ports, and one for each dataset. The ports for lines are files of a folder, if there is
-/// one.
+/// Adds what a configuration means: a line for the node, one for each group, one for each slot, one
+/// for the spare control ports, and one for each dataset. The ports for lines are files of a folder,
+/// if there is one.
 ///
 /// # Errors
 /// Want of memory.
@@ -34,6 +34,7 @@ pub(crate) fn push_meaning(
     folder: Option<&str>,
 ) -> Result<(), AllocError> {
     push_node(text, config, folder)?;
+    push_groups(text, config)?;
     for slot in 0..config.slots() {
         push_slot(text, config, folder, slot)?;
     }
@@ -62,6 +63,21 @@ fn push_node(
     }
     let operator = control_site(config, folder, config.operator_port());
     writeln!(text, "operator at {operator}")
+}
+
+/// Adds the line of each group, with the command by which a link joins it.
+///
+/// # Errors
+/// Want of memory.
+fn push_groups(text: &mut String, config: &NodeConfig) -> Result<(), AllocError> {
+    for group in config.groups() {
+        let group = shown(Ip(*group));
+        writeln!(
+            text,
+            "group {group}: a link joins it by `ip address add {group}/32 dev LINK autojoin`"
+        )?;
+    }
+    Ok(())
 }
 
 /// Adds the line of a slot.

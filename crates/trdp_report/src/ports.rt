@@ -4,6 +4,7 @@ use crate::meaning::shown;
 use std::alloc::{AllocError, Global};
 use std::fmt;
 use std::net::SocketAddrV4;
+use trdp_base::Ip;
 use trdp_dataset::NodeConfig;
 
 /// The key that names a port.
@@ -13,6 +14,8 @@ enum PortKey {
     Pd,
     /// `md_port` of the node.
     Md,
+    /// A member of `groups` of the node, by its index.
+    Group(usize),
     /// `operator_port` of the node.
     Operator,
     /// `control_port` of a slot, by its number.
@@ -26,6 +29,7 @@ impl fmt::Display for PortKey {
         match *self {
             PortKey::Pd => f.write_str("pd_port"),
             PortKey::Md => f.write_str("md_port"),
+            PortKey::Group(index) => write!(f, "groups[{index}]"),
             PortKey::Operator => f.write_str("operator_port"),
             PortKey::Control(slot) => write!(f, "slot {slot}, control_port"),
             PortKey::Spare(added) => write!(f, "spare_control_ports[{added}]"),
@@ -146,6 +150,7 @@ pub(crate) fn ports_of<'a>(
         PortKey::Md,
         Site::Udp(SocketAddrV4::new(own, config.md_port())),
     )?;
+    push_group_ports(&mut ports, config)?;
     let operator = config.operator_port();
     push_port(
         &mut ports,
@@ -155,6 +160,24 @@ pub(crate) fn ports_of<'a>(
     push_control_ports(&mut ports, config, folder)?;
     push_spare_ports(&mut ports, config, folder)?;
     Ok(ports)
+}
+
+/// Adds the ports of the groups.
+///
+/// # Errors
+/// Want of memory.
+fn push_group_ports<'a>(
+    ports: &mut Vec<NamedPort<'a>>,
+    config: &NodeConfig,
+) -> Result<(), AllocError> {
+    for (index, group) in config.groups().iter().enumerate() {
+        let address = shown(Ip(*group));
+        for port in [config.pd_port(), config.md_port()] {
+            let site = Site::Udp(SocketAddrV4::new(address, port));
+            push_port(ports, PortKey::Group(index), site)?;
+        }
+    }
+    Ok(())
 }
 
 /// Adds the control ports of the slots.

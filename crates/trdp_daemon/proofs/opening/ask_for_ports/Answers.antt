@@ -6,24 +6,32 @@ use Rattle.trdp_daemon.specs.declared.port.Port.{Port}
 use Rattle.trdp_daemon.specs.declared.port.Port.TheVariants.{Operator, Control}
 use Rattle.trdp_dataset.specs.Configs.{ConfigModel}
 use Rattle.trdp_daemon.specs.Openings.{request_of}
-use Rattle.trdp_daemon.specs.Ports.{control_numbers, control_ports, port_unless_0, ports_of}
-use Rattle.trdp_daemon.specs.Sockets.{SocketCall, network_ports}
+use Rattle.trdp_daemon.specs.Ports.{control_numbers, control_ports, line_ports, network_ports}
+use Rattle.trdp_daemon.specs.Ports.{port_unless_0, ports_of}
+use Rattle.trdp_daemon.specs.Sockets.{SocketCall}
 use Rattle.trdp_daemon.specs.Told.{TellsMore}
 use Rattle.trdp_daemon.proofs.ControlPortLemmas.{control_next, control_end, numbers_count}
 use Rattle.trdp_daemon.proofs.SocketLemmas.{Asked, asked_first, asked_more, asked_stops, asked_all}
 use Rattle.trdp_daemon.proofs.SocketLemmas.{stops_with}
 use Rattle.trdp_daemon.proofs.opening.ask_for_ports.Goals as goal
 
--- process data and message data were asked
-two_asked : (f : Port → SocketCall) (config : ConfigModel) (number : ℕ)
+-- before the first port
+all_first : (f : Port → SocketCall) (config : ConfigModel) (a : Option (List SocketCall))
+    → Asked f (ports_of config) a a (network_ports config ++ line_ports config)
+unfolding ports_of
+all_first f config a = asked_first f (network_ports config ++ line_ports config) a
+
+-- the network's ports were asked
+network_asked : (f : Port → SocketCall) (config : ConfigModel) (number : ℕ)
     (a b : Option (List SocketCall)) → number ≡ config.operator_port
-    → TellsMore a b (map f network_ports)
+    → TellsMore a b (map f (network_ports config))
     → Asked f (ports_of config) a b
     (port_unless_0 number Operator ++ control_ports 0 (control_numbers config))
-two_asked f config number a b is both =
+network_asked f config number a b is all =
     subst (λ (n : ℕ). Asked f (ports_of config) a b (port_unless_0 n Operator
     ++ control_ports 0 (control_numbers config))) (sym is)
-    (asked_more f (ports_of config) network_ports _ a a b (asked_first f config a) both)
+    (asked_more f (ports_of config) (network_ports config) (line_ports config) a a b
+    (all_first f config a) all)
 
 -- all was asked but for the control ports of a slot and those behind it
 next_slot : (f : Port → SocketCall) (config : ConfigModel) (slot : ℕ)
@@ -47,32 +55,33 @@ all_asked f config slot a b end asked =
 pub returns-in_err-ask_for_network : goal.returns-in_err-ask_for_network
 returns-in_err-ask_for_network g c =
     let f = request_of c.args.config.now c.args.request in
-    let all = ports_of c.args.config.now in
+    let config = c.args.config.now in
     stops_with _ _ _ c.from_residual.result c.in_err-ask_for_network.field-0.0
     c.from_residual.ensures.1
-    (asked_stops f all network_ports _ c.in_err-ask_for_network.field-0.0 _ _ _
-    (asked_first f c.args.config.now _) c.in_err-ask_for_network.ensures)
+    (asked_stops f (ports_of config) (network_ports config) (line_ports config)
+    c.in_err-ask_for_network.field-0.0 _ _ _
+    (all_first f config _) c.in_err-ask_for_network.ensures)
 
 pub returns-in_err-ask_unless_0 : goal.returns-in_err-ask_unless_0
 returns-in_err-ask_unless_0 g c =
     let f = request_of c.args.config.now c.args.request in
     let config = c.args.config.now in
     let number = c.operator_port.result in
-    let two = two_asked f config number _ _ c.operator_port.ensures.value
+    let network = network_asked f config number _ _ c.operator_port.ensures.value
     c.in_ok-ask_for_network.ensures in
     stops_with _ _ _ c.from_residual-in_err-ask_unless_0.result
     c.in_err-ask_unless_0.field-0.0 c.from_residual-in_err-ask_unless_0.ensures.1
     (asked_stops f (ports_of config) (port_unless_0 number Operator) _
-    c.in_err-ask_unless_0.field-0.0 _ _ _ two c.in_err-ask_unless_0.ensures)
+    c.in_err-ask_unless_0.field-0.0 _ _ _ network c.in_err-ask_unless_0.ensures)
 
 pub loop-slot-init : goal.loop-slot-init
 loop-slot-init g c =
     let f = request_of c.args.config.now c.args.request in
     let config = c.args.config.now in
     let number = c.operator_port.result in
-    let two = two_asked f config number _ _ c.operator_port.ensures.value
+    let network = network_asked f config number _ _ c.operator_port.ensures.value
     c.in_ok-ask_for_network.ensures in
-    asked_more f (ports_of config) (port_unless_0 number Operator) _ _ _ _ two
+    asked_more f (ports_of config) (port_unless_0 number Operator) _ _ _ _ network
     c.in_ok-ask_unless_0.ensures
 
 pub returns-in_err-ask_for_control : goal.returns-in_err-ask_for_control

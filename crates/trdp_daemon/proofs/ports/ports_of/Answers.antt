@@ -1,13 +1,15 @@
-use Rattle.std.proofs.Common.{◌≡◌, length, arith, ◌++◌, ap, ◌∙◌}
-use Rattle.trdp_daemon.specs.declared.port.Port.TheVariants.{Operator}
-use Rattle.trdp_daemon.specs.Ports.{control_numbers, port_unless_0}
+use Rattle.std.proofs.Common.{◌≡◌, length, arith, ◌∷◌, ◌++◌, ap, ◌∙◌}
+use Rattle.trdp_daemon.specs.declared.port.Port.TheVariants.{Md, Operator, Pd}
+use Rattle.trdp_daemon.specs.Ports.{control_numbers, group_ports, port_unless_0}
 use Rattle.trdp_daemon.proofs.ControlPortLemmas.{numbers_count, ports_start, ports_end}
 use Rattle.trdp_daemon.proofs.ports.ports_of.Goals as goal
 
 pub loop-slot-init : goal.loop-slot-init
 loop-slot-init c = ports_start c.args.config.now _ _ c.operator_port.ensures.value
     (c.in_ok-push_unless_0.ensures
-    ∙ ap (λ l. l ++ port_unless_0 c.operator_port.result Operator) c.in_ok-ports.ensures.items)
+    ∙ ap (λ l. l ++ port_unless_0 c.operator_port.result Operator)
+    (c.in_ok-push_groups.ensures ∙ ap (λ l. l ++ group_ports c.groups.result.now)
+    c.in_ok-ports.ensures.items ∙ ap (λ gs. Pd ∷ Md ∷ group_ports gs) c.groups.ensures.value))
 
 pub returns : goal.returns
 returns c =

@@ -14,7 +14,7 @@ returns-in-Send g c =
     record_sent _ (record_model c.args.record.now)
     c.in-Send.kind c.in-Send.to c.in-Send.telegram.now (ap content_model c.in-Send.is)
     (subst (λ (p : Port). Carries g.W.Wire.takings g.W.Wire.gives c.args.link.now c.give.new.self
-    [] (offering p c.in-Send.to c.in-Send.telegram.now)) c.port_of.ensures c.give.ensures)
+    [] (offering p c.in-Send.to c.in-Send.telegram.now)) c.port_of.ensures c.give.ensures.carried)
 
 pub returns-in-Answer : goal.returns-in-Answer
 returns-in-Answer g c =

@@ -16,7 +16,7 @@ returns-in-Ok g c =
     ∙ ap (λ l. l ++ text_of_record (record_model c.args.record.now)) c.clear.ensures.items in
     text_given _ c.in-Some.to c.args.to _ c.in-Some.is
     (subst (λ (l : List ℕ). Carries g.W.Wire.takings g.W.Wire.gives c.args.link.now c.give.new.self
-    [] (offering (Control c.args.record.now.slot) c.in-Some.to l)) printed c.give.ensures)
+    [] (offering (Control c.args.record.now.slot) c.in-Some.to l)) printed c.give.ensures.carried)
 
 pub returns-in-Err : goal.returns-in-Err
-returns-in-Err g c = text_lost _ c.in-Some.to c.args.to _ c.in-Some.is c.miss.ensures
+returns-in-Err g c = text_lost _ c.in-Some.to c.args.to _ c.in-Some.is c.miss.ensures.carried

@@ -2,8 +2,8 @@ use Rattle.std.proofs.Common.{[], ◌∷◌, refl, sym}
 use Rattle.trdp_daemon.specs.Told.{give_of}
 use Rattle.trdp_daemon.proofs.link.Link.give.Goals as goal
 
-pub returns : goal.returns
-returns g c =
+pub returns-clause-carried : goal.returns-clause-carried
+returns-clause-carried g c =
     let given = give_of c.args.port c.args.to c.args.bytes.now c.give-given.result in
     record {
       gives = given ∷ [];

@@ -3,8 +3,8 @@ use Rattle.trdp_daemon.specs.declared.totals.Totals.{Totals}
 use Rattle.trdp_daemon.proofs.LinkLemmas.{adds_none}
 use Rattle.trdp_daemon.proofs.link.Link.miss.Goals as goal
 
-pub returns : goal.returns
-returns g c = record {
+pub returns-clause-carried : goal.returns-clause-carried
+returns-clause-carried g c = record {
   gives = [];
   offers = refl;
   takes = adds_none _;

@@ -5,9 +5,9 @@ use Rattle.trdp_daemon.proofs.resting_wire.RestingWire.over.Goals as goal
 pub returns-clause-fresh : goal.returns-clause-fresh
 returns-clause-fresh g c = record {
   clock_is = refl;
-  news = λ socket. each_there 34 socket;
+  news = λ socket. each_there 98 socket;
   heard = refl;
-  left = refl;
+  goes_on = refl;
   busy = refl;
   rested = refl;
   failures = c.over.ensures.failures;

@@ -32,5 +32,5 @@ returns-clause-comes g c =
       service_is = refl;
       carried = subst (λ (l : List ℕ). Carries g.W.Wire.takings g.W.Wire.gives c.args.link.now
           c.give.new.self [] (offering Operator c.args.from l))
-          (c.deref-2.ensures.value ∙ told) c.give.ensures;
+          (c.deref-2.ensures.value ∙ told) c.give.ensures.carried;
     }

@@ -28,7 +28,8 @@ returns-in-Err-OutOfMemory-clause-comes g c =
     comes_lost c.args.self.now _ (event_model c.args.event.now)
     (c.step.ensures.memory (c.in-Err-OutOfMemory.is ∙ ap Err c.in-Err-OutOfMemory.field-0-is))
     (search rules)
-    (missed c.args.self.now _ c.in-Err-OutOfMemory.ensures.kept refl refl refl c.miss.ensures)
+    (missed c.args.self.now _ c.in-Err-OutOfMemory.ensures.kept refl refl refl
+    c.miss.ensures.carried)
 
 pub returns-in-Err-clause-node : goal.returns-in-Err-clause-node
 returns-in-Err-clause-node g c =

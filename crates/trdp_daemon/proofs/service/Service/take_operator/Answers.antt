@@ -16,7 +16,7 @@ returns-in-Ok-clause-comes g c =
     (c.in-Ok-Some-Event.field-0-is ∙ ap Some c.in-Ok-Some-Event.field-0-0-is))
     (comes_answered c.args.self.now _ (event_model c.in-Ok-Some-Event.event) c.args.from
     c.operator_text.result.now (c.operator_text.ensures ∙ ap operator_text c.in-Ok.ensures.fault)
-    c.in-Ok.ensures.told c.give.ensures)
+    c.in-Ok.ensures.told c.give.ensures.carried)
 
 pub returns-in_default-clause-comes : goal.returns-in_default-clause-comes
 returns-in_default-clause-comes g c =

@@ -1,0 +1,59 @@
+//! Which groups of a node no link of this machine has joined.
+
+use crate::meaning::shown;
+use std::alloc::{AllocError, Global};
+use std::fmt::Write;
+use std::fs;
+use std::fs::Files;
+use trdp_base::Ip;
+use trdp_dataset::NodeConfig;
+
+/// Where Linux says which groups its links have joined.
+const JOINED: &str = "/proc/net/igmp";
+
+/// How many digits a group has there.
+const DIGITS: usize = 8;
+
+/// A line for each group of a node that no link has joined, so that nothing comes from there; none
+/// where the system doesn't say which are.
+///
+/// # Errors
+/// Want of memory.
+pub fn unjoined_groups<R: Files + AllocGlobal>(
+    rt: &R,
+    alloc: Global,
+    config: &NodeConfig,
+) -> Result<String, AllocError> {
+    let mut text = String::new(alloc);
+    if config.groups().is_empty() {
+        return Ok(text);
+    }
+    if let Ok(joined) = fs::read(rt, JOINED) {
+        for group in config.groups() {
+            push_unjoined(alloc, &mut text, Ip(*group), &joined)?;
+        }
+    }
+    Ok(text)
+}
+
+/// Adds a line for a group that isn't among those which were joined.
+///
+/// # Errors
+/// Want of memory.
+fn push_unjoined(
+    alloc: Global,
+    text: &mut String,
+    group: Ip,
+    joined: &[u8],
+) -> Result<(), AllocError> {
+    // It stands there in hexadecimal, its bytes reversed.
+    let digits = format!(in alloc; "{:08X}", group.0.swap_bytes())?;
+    if joined.windows(DIGITS).any(|word| word == digits.as_bytes()) {
+        return Ok(());
+    }
+    let group = shown(group);
+    writeln!(
+        text,
+        "warning: no link has joined the group {group}: nothing comes from there"
+    )
+}
