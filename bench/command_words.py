@@ -1,5 +1,7 @@
 #!/usr/bin/env python3
-"""What `trdpd` says where there is no configuration to look at: its help, and files that can't be read.
+"""What `trdpd` says where there is no configuration to look at: its help, its version, and files that can't be read.
+
+It was proved with the logic of the toolchain that is here, as `rt version` prints it.
 
     bench/command_words.py [PROGRAM]              default: crates/trdpd/out/trdpd (./run prove builds it)
 
@@ -10,6 +12,7 @@ from __future__ import annotations
 
 import os
 import pathlib
+import re
 import subprocess
 import sys
 import tempfile
@@ -28,7 +31,8 @@ Commands:
   help    Print this message or the help of the given subcommand(s)
 
 Options:
-  -h, --help  Print help
+  -h, --help     Print help
+  -V, --version  Print version
 
 Example, with a configuration of this project:
   trdpd check examples/control/door.toml
@@ -42,18 +46,28 @@ TELLING = (["check"], ["daemon"])
 SHORT = (["run"], ["serve", "--turns", "0"])
 
 
-def cases(folder: pathlib.Path) -> list[tuple[list[str], int, str]]:
-    """Words, and the status and the error stream of each."""
+def version() -> str:
+    """The line that tells the version, as the program's source and the toolchain have it."""
+    source = pathlib.Path(TOP, "crates/trdpd/src/version.rt").read_text()
+    number = re.search(r'VERSION: &str = "(.*)";', source)
+    kit = subprocess.run([os.environ.get("RT") or "rt", "version"], capture_output=True, text=True, check=True).stdout
+    assert number, "no version in crates/trdpd/src/version.rt"
+    return f"trdpd {number[1]}, proved with logic {kit.split()[-1]}\n"
+
+
+def cases(folder: pathlib.Path) -> list[tuple[list[str], int, str, str]]:
+    """Words, and the status, the output and the error stream of each."""
     missing, kept = folder / "missing.toml", folder / "kept.toml"
     kept.write_text("")
     kept.chmod(0)
     files = [(missing, "No such file or directory (os error 2)"), (folder, "Is a directory (os error 21)")]
     if os.geteuid() != 0:
         files.append((kept, "Permission denied (os error 13)"))
-    found = [([word], 2, HELP) for word in ("--help", "-h", "help")]
+    found = [([word], 2, "", HELP) for word in ("--help", "-h", "help")]
+    found += [([word], 0, version(), "") for word in ("--version", "-V")]
     for path, why in files:
-        found += [([*words, str(path)], 1, f"{UNREADABLE}{path}: {why}\n") for words in TELLING]
-        found += [([*words, str(path)], 1, UNREADABLE) for words in SHORT]
+        found += [([*words, str(path)], 1, "", f"{UNREADABLE}{path}: {why}\n") for words in TELLING]
+        found += [([*words, str(path)], 1, "", UNREADABLE) for words in SHORT]
     return found
 
 
@@ -62,9 +76,9 @@ def main(program: str = f"{TOP}/crates/trdpd/out/trdpd") -> int:
     faults = 0
     with tempfile.TemporaryDirectory() as folder:
         rows = cases(pathlib.Path(folder))
-        for words, status, errors in rows:
+        for words, status, output, errors in rows:
             ran = subprocess.run([program, *words], stdin=subprocess.DEVNULL, capture_output=True, text=True, timeout=20)
-            if (ran.returncode, ran.stdout, ran.stderr) != (status, "", errors):
+            if (ran.returncode, ran.stdout, ran.stderr) != (status, output, errors):
                 faults += 1
                 print(f"{' '.join(words)}: {ran.returncode}, {ran.stdout!r}, {ran.stderr!r}")
     print(f"{len(rows)} command lines, {faults} differ")

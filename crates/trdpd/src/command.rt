@@ -1,6 +1,7 @@
 //! The command line: `trdpd check CONFIG`, `trdpd run CONFIG`, `trdpd serve CONFIG --turns N` and
 //! `trdpd daemon CONFIG`.
 
+use crate::version::VERSION;
 use clap::{Arg, ArgAction, ArgMatches, Command, Error, value_parser};
 use std::alloc::{AllocError, Global};
 use trdp_program::ServiceOptions;
@@ -51,8 +52,8 @@ pub enum Task<'a> {
 /// all but `run` maybe stands `--controls` with a folder, and behind `serve` and `daemon` maybe
 /// `--lease` with a number of 1 to 86,400.
 ///
-/// The error's text is for the user. Its kind tells want of memory from wrong words and from a
-/// wish for help.
+/// The error's text is for the user. Its kind tells want of memory from wrong words, and from a
+/// wish for help or for the version.
 pub fn read_words<'a>(alloc: Global, words: &'a [String]) -> Result<Task<'a>, Error> {
     let matches = command(alloc)?.try_get_matches_from(words)?;
     Ok(task_of(&matches))
@@ -127,6 +128,7 @@ fn command<'a>(alloc: Global) -> Result<Command<'a>, AllocError> {
         .arg(lease(alloc))?;
     Command::new(alloc, "trdpd")
         .about("A communication node for the Train Real-time Data Protocol (TRDP, IEC 61375-2-3)")
+        .version(VERSION)
         .after_help(EXAMPLE)
         .subcommand_required(true)
         .subcommand(check)?

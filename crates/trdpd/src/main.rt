@@ -24,8 +24,12 @@
 //! folder, files that have the port's number as their name, and no UDP ports; `check` takes these
 //! words too. With `--lease SECONDS` a slot begins anew whose application said nothing for so long.
 //!
+//! `trdpd --version` says which program this is, and by which logic it was proved, on standard
+//! output.
+//!
 //! The exit status is
-//! - 0 at the script's end, after the last turn, and for a configuration without a fault;
+//! - 0 at the script's end, after the last turn, for a configuration without a fault, and for the
+//!   version;
 //! - 1 where the configuration isn't taken, with `config fault NAME` on standard error. Behind
 //!   the name stands the key of a Missing or WrongType and the number of a dataset for NoDataset;
 //!   a check and a daemon say behind that line where each fault is, and what is wanted there.
@@ -45,6 +49,7 @@
 #![tactic(auto)]
 
 mod command;
+mod version;
 
 use clap::error::ErrorKind;
 use command::{Task, read_words};
@@ -57,6 +62,7 @@ use trdp_program::{
     report_daemon, run_program, script_status, serve_with,
 };
 use trdp_script::ScriptFault;
+use version::{LOGIC, VERSION};
 
 /// The exit status of words that are no task, and of a wish for help (profile).
 const USAGE_STATUS: u8 = 2;
@@ -90,10 +96,18 @@ fn status(rt: &HostRuntime) -> u8 {
                     seconds,
                 },
             ) => attend_file(rt, path, options, seconds),
+            Err(error) if error.kind() == ErrorKind::DisplayVersion => tell_version(rt),
             Err(error) => refuse(rt, &error, error.kind() == ErrorKind::OutOfMemory),
         },
         Err(error) => refuse(rt, NO_TEXT, error.kind() == io::ErrorKind::OutOfMemory),
     }
+}
+
+/// Says which program this is and what it was proved with, and answers the exit status.
+fn tell_version(rt: &impl Print) -> u8 {
+    // What standard output does with the text changes nothing.
+    let _ = println!(rt; "trdpd {VERSION}, proved with logic {LOGIC}");
+    0
 }
 
 /// Says what the configuration of a file means, and answers the exit status.
