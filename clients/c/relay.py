@@ -3,8 +3,12 @@
 A client calls at the relay's port in place of the daemon's, and the daemon hears the relay. What
 isn't an answer passes.
 """
+from __future__ import annotations
+
 import socket
 import threading
+
+Place = tuple[str, int]
 
 ANSWERS = {b"handle", b"done", b"value", b"refused"}
 
@@ -12,19 +16,19 @@ ANSWERS = {b"handle", b"done", b"value", b"refused"}
 class Relay(threading.Thread):
     """From one place to another, until the program ends."""
 
-    def __init__(self, here, daemon):
+    def __init__(self, here: Place, daemon: Place) -> None:
         super().__init__(daemon=True)
         self.lock = threading.Lock()
-        self.client = None
+        self.client: Place | None = None
         self.left = {"drop": 0, "double": 0, "hold": 0}  # how many of the next answers
-        self.held = []
+        self.held: list[bytes] = []
         self.down = socket.socket(socket.AF_INET, socket.SOCK_DGRAM)
         self.down.bind(here)
         self.up = socket.socket(socket.AF_INET, socket.SOCK_DGRAM)
         self.up.connect(daemon)
         threading.Thread(target=self.come_back, daemon=True).start()
 
-    def run(self):
+    def run(self) -> None:
         """Passes lines on to the daemon."""
         while True:
             line, self.client = self.down.recvfrom(65536)
@@ -33,7 +37,7 @@ class Relay(threading.Thread):
             except OSError:
                 pass  # nobody is there now
 
-    def come_back(self):
+    def come_back(self) -> None:
         """Passes texts back to the client, or does with them what it was told to."""
         while True:
             try:
@@ -43,7 +47,7 @@ class Relay(threading.Thread):
             with self.lock:
                 self.give(text)
 
-    def give(self, text):
+    def give(self, text: bytes) -> None:
         """Gives one text to the client."""
         ways = [way for way, count in self.left.items() if count] if self.is_answer(text) else []
         if ways:
@@ -52,21 +56,26 @@ class Relay(threading.Thread):
             self.held.append(text)
         elif ways[:1] != ["drop"]:
             for _ in range(2 if ways else 1):
-                self.down.sendto(text, self.client)
+                self.pass_on(text)
+
+    def pass_on(self, text: bytes) -> None:
+        """Sends one text to the client: a daemon answers nobody who didn't call."""
+        assert self.client is not None
+        self.down.sendto(text, self.client)
 
     @staticmethod
-    def is_answer(text):
+    def is_answer(text: bytes) -> bool:
         words = text.split()
         return len(words) > 1 and words[1] in ANSWERS
 
-    def set(self, way, count):
+    def set(self, way: str, count: int) -> None:
         """Drops, doubles or holds back so many of the next answers."""
         with self.lock:
             self.left[way] = count
 
-    def release(self):
+    def release(self) -> None:
         """Gives what was held back."""
         with self.lock:
             for text in self.held:
-                self.down.sendto(text, self.client)
+                self.pass_on(text)
             self.held.clear()

@@ -4,8 +4,8 @@
     clients/c/values.py PROGRAM [COUNT]
 
 PROGRAM is test_values.c, compiled. So many datasets are drawn, 2000 by default, each with a value, whose bytes have to
-be the same in both languages, as has to be the value of the bytes; and other bytes near them, which have to be a value in
-both or in none. What is drawn depends on TRDP_SEED in the environment, which is printed. Prints
+be the same in both languages, as has to be the value of the bytes; and other bytes near them, which have to be a value
+in both or in none. What is drawn depends on TRDP_SEED in the environment, which is printed. Prints
 `values: N passed, M failed`, and ends with status 1 where something differs.
 """
 from __future__ import annotations
@@ -20,7 +20,7 @@ from typing import Any, NamedTuple
 sys.dont_write_bytecode = True
 HERE = pathlib.Path(__file__).resolve().parent
 sys.path.insert(0, str(HERE.parent / "python"))
-from trdp_slot import BASIC_TYPES, COUNT_TYPES, DEPTH_MOST, Datasets, DoesNotFit, Element, Number
+from trdp_slot import BASIC_TYPES, COUNT_TYPES, DEPTH_MOST, Datasets, DoesNotFit, Element, Number  # noqa: E402
 
 NUMBERS = {"BOOL8": 1, "CHAR8": 2, "UTF16": 3, "INT8": 4, "INT16": 5, "INT32": 6, "INT64": 7, "UINT8": 8, "UINT16": 9,
            "UINT32": 10, "UINT64": 11, "TIMEDATE32": 14, "TIMEDATE48": 15, "TIMEDATE64": 16}

@@ -249,7 +249,7 @@ class Traps(Case):
 
     def test_another_slot_answers(self) -> None:
         answers = iter(["7 value Valid 1 0b", "7 done", "7 refused NoHandle", "0 refused NoHandle", "7 handle 4",
-         "7 value x"])
+                        "7 value x"])
         self.say = lambda line: [MARKS[line]] if line in MARKS else [next(answers)] if line != "#" else []
         slot = self.client(number=0, answer_us=500_000)
         calls: list[Callable[[], object]] = [lambda: slot.get(1), lambda: slot.put(1, b""), lambda: slot.unpublish(1)]
@@ -271,14 +271,12 @@ class Traps(Case):
         told: str | None = None
         self.say = lambda line: [MARKS[line]] if line in MARKS else [] if told is None else [told]
         slot = self.client(tries=1, answer_us=500_000)
-        calls: list[Callable[[], object]] = [lambda: slot.get(1), lambda: slot.publish(1,
-         "10.0.0.2:17224"), lambda: slot.put(1, b"")]
+        calls: list[Callable[[], object]] = [
+            lambda: slot.get(1), lambda: slot.publish(1, "10.0.0.2:17224"), lambda: slot.put(1, b"")]
         for told in ("0 refused", "0 refused x", "0 refused No Handle", "0 handle", "0 handle x", "0 handle -1",
-         "0 value", "0 value Valid",
-                     "0 value Valid x 00", "0 value Valid 1 0", "0 value Valid 1 xy", "0 value Valid 1 00 00",
-                     "0 value Old 1 00",
-                     "0 done 1", "0 silent", "0 silent x", "0 asked 1 2 3 4 5 6 7 8", "0 replied 1 x Mp 0 1 -",
-                     "0 closed 1",
+                     "0 value", "0 value Valid", "0 value Valid x 00", "0 value Valid 1 0", "0 value Valid 1 xy",
+                     "0 value Valid 1 00 00", "0 value Old 1 00", "0 done 1", "0 silent", "0 silent x",
+                     "0 asked 1 2 3 4 5 6 7 8", "0 replied 1 x Mp 0 1 -", "0 closed 1",
                      "HTTP/1.1 400", "get 1", "", "0", "0 jumped", "00 done", "ok", "\ufffd", "x" * 500, "line fault"):
             for call in calls:
                 with self.assertRaises(WrongAnswer) as caught:
@@ -295,11 +293,9 @@ class Traps(Case):
     def test_a_line_by_chance_is_taken_or_told(self) -> None:
         print(f"answers by chance: seed {SEED}", file=sys.stderr)
         chance = random.Random(SEED)
-        words = ["0", "1", "7", "-1", "4294967296", "handle", "done", "value", "refused", "silent", "alive",
-         "notified", "asked",
-                 "overrun", "replied", "confirmed", "closed", "Valid", "NoHandle", "10.0.0.2:17225", "-", "00", "0",
-                 "Mp", str(FIRST),
-                 "line", "fault", "", "\xff"]
+        words = ["0", "1", "7", "-1", "4294967296", "handle", "done", "value", "refused", "silent", "alive", "notified",
+                 "asked", "overrun", "replied", "confirmed", "closed", "Valid", "NoHandle", "10.0.0.2:17225", "-", "00",
+                 "0", "Mp", str(FIRST), "line", "fault", "", "\xff"]
         slot = self.client(number=0)
         for _ in range(20_000):
             line = " ".join([chance.choice(["0", "0", "0", "7", "x"]), *chance.choices(words, k=chance.randrange(9))])

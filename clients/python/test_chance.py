@@ -27,7 +27,7 @@ from testing import HERE, SEED, TOP
 from trdp_slot import Datasets
 
 sys.path.insert(0, str(TOP / "examples/control"))
-import client
+import client  # noqa: E402
 
 DATAGRAMS, LINES, PROGRAMS = 100_000, 5_000, 50
 # How often so many lines are drawn, until each status came.
@@ -38,20 +38,15 @@ PLACES = [PLACE, SOURCE, "localhost", f"{SOURCE}:99999", ":", "127.0.8.27:5", "x
 NUMBERS = ["0", "1", "-1", "3", "17224", "17225", "65535", "65536", "4294967295", "4294967296", "9" * 30, "0x10", "1e3",
            "1.5", "nan", "inf", "x", "", " 7", "١"]
 TEXTS = ["-", "--", "-h", "--help", "00", "0d0", "xyz", "new", "0a0b0c0d-0000-0000-0000-000000000001", "node.toml",
- "bad.toml",
-         "deep.toml", "none.toml", "gone.toml", ".", "out.pcapng", "/dev/full", "[4, [0, 0, 0, 0], 0]",
-         "[1, [300], 0]", "((", "\0",
-         "\udcff", "\ud800", "é", "x" * 70, "%s", "%(prog)s", "get 1", "#", "Pd", "Pr", "Mn", "Mr", "Pe", "\n",
-         "\x1b[2J"]
+         "bad.toml", "deep.toml", "none.toml", "gone.toml", ".", "out.pcapng", "/dev/full", "[4, [0, 0, 0, 0], 0]",
+         "[1, [300], 0]", "((", "\0", "\udcff", "\ud800", "é", "x" * 70, "%s", "%(prog)s", "get 1", "#", "Pd", "Pr",
+         "Mn", "Mr", "Pe", "\n", "\x1b[2J"]
 OPTIONS = {
     "trdp_send.py": ["--type", "--com-id", "--counter", "--etb", "--op-trn", "--reply-com-id", "--reply-address",
-    "--session",
-                     "--status", "--time-us", "--source-uri", "--dest-uri", "--data", "--value", "--toml",
-                     "--dataset", "--from", "--ttl",
-                     "--cycle-us", "--count", "--c", "--jump"],
+                     "--session", "--status", "--time-us", "--source-uri", "--dest-uri", "--data", "--value", "--toml",
+                     "--dataset", "--from", "--ttl", "--cycle-us", "--count", "--c", "--jump"],
     "trdp_dump.py": ["--pd-port", "--md-port", "--toml", "--com-id", "--type", "--pcapng", "--time", "--beside",
-    "--count",
-                     "--for-us", "--group", "--interface", "--p", "--jump"],
+                     "--count", "--for-us", "--group", "--interface", "--p", "--jump"],
     "client.py": ["--stay", "--stay", "--jump"],
 }
 FITTING = {

@@ -15,7 +15,7 @@ from test_traps import run
 from testing import TOP, Port
 
 sys.path.insert(0, str(TOP / "examples/control"))
-import client
+import client  # noqa: E402
 
 CLIENT = [sys.executable, "-W", "error", str(TOP / "examples/control/client.py")]
 ENDED = "client.py: the connection was ended\n"

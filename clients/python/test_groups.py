@@ -73,7 +73,8 @@ class Dumps(unittest.TestCase):
         dump = self.dump([*JOINED, "--pcapng", str(self.file), *words], 6, address)
         self.assertEqual(dump.begun, f"trdp_dump.py: at {address} and {FIRST} and {SECOND}, ports {PD} and {MD}\n")
         self.give(1, OTHER)
-        sent = [(2, DUMP, "Pd"), (3, FIRST, "Pd"), (4, SECOND, "Pd"), (5, FIRST, "Mn"), (6, DUMP, "Mn"), (7, DUMP, "Pd")]
+        sent = [(2, DUMP, "Pd"), (3, FIRST, "Pd"), (4, SECOND, "Pd"), (5, FIRST, "Mn"), (6, DUMP, "Mn"),
+                (7, DUMP, "Pd")]
         for number, home, kind in sent:
             self.give(number, home, kind)
         # They come to several sockets, so that their order isn't that in which they were sent.
@@ -120,8 +121,8 @@ class Dumps(unittest.TestCase):
             line = [sys.executable, str(HERE / "trdp_dump.py"), DUMP, *PORTS, *JOINED]
             ran = subprocess.run(line, capture_output=True, timeout=20, text=True)
         self.assertEqual((ran.returncode, ran.stderr), (
-            1, f"trdp_dump.py: {FIRST}:{MD}: Address already in use: a program has this port; --beside copies what comes "
-               "to it, as root\n"))
+            1, f"trdp_dump.py: {FIRST}:{MD}: Address already in use: a program has this port; --beside copies what "
+               "comes to it, as root\n"))
 
     def test_the_port_of_the_address_is_shared_with_nobody(self) -> None:
         dump = self.dump([*JOINED, "--interface", "lo"], 1, "0.0.0.0")
@@ -141,7 +142,8 @@ class Sends(unittest.TestCase):
         port.settimeout(10)
         port.setsockopt(socket.IPPROTO_IP, IP_RECVTTL, 1)
         address, number = port.getsockname()
-        line = [sys.executable, "-W", "error", str(HERE / "trdp_send.py"), f"{address}:{number}", "--com-id", "1", *words]
+        line = [sys.executable, "-W", "error", str(HERE / "trdp_send.py"), f"{address}:{number}", "--com-id", "1",
+                *words]
         ran = subprocess.run(line, capture_output=True, timeout=20)
         self.assertEqual((ran.returncode, ran.stderr), (0, b""))
         data, told, _, source = port.recvmsg(65536, 64)

@@ -1,4 +1,5 @@
-"""What becomes of a daemon whose standard output or standard error is slow, full or gone: it goes on; and what it tells there of losses.
+"""What becomes of a daemon whose standard output or standard error is slow, full or gone: it goes on; and what it tells
+there of losses.
 
 All tests wait side by side. What has to come within some time has a margin of ten, and is tried once.
 """
@@ -158,7 +159,8 @@ def with_a_reason_for_losses() -> None:
 
 
 WORKS: list[Callable[[], None]] = [
-    by_a_full_output, by_a_full_error, by_a_full_device, by_a_reader_that_ended, by_closed_streams, by_a_stopped_terminal,
+    by_a_full_output, by_a_full_error, by_a_full_device, by_a_reader_that_ended, by_closed_streams,
+    by_a_stopped_terminal,
     with_a_reason_for_losses,
 ]
 

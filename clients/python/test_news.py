@@ -22,10 +22,11 @@ from test_edge import LISTEN, pid, pull_request
 from test_ports import DEVICE, HOME, TELEGRAM, Case, control, node, notification
 from testing import CONTROL, MD, OPERATOR, PD, SEED, Daemon, fork, wait_until
 
-# For how many seconds datagrams come out of quiet, and how many of a kind a second. Then how often a few come behind which
-# nothing comes, how many these are at most and how far apart, and how soon the last one is answered.
+# For how many seconds datagrams come out of quiet, and how many of a kind a second. Then how often a few come behind
+# which nothing comes, how many these are at most and how far apart, and how soon the last one is answered.
 QUIET, A_SECOND, TIMES, FEW, APART, SOON = 5.0, 200, 50, 3, 0.0001, 1.0
-# A cycle in seconds by which something is due all the while: a datagram comes now farther away from it than a millisecond, now nearer.
+# A cycle in seconds by which something is due all the while: a datagram comes now farther away from it than a
+# millisecond, now nearer.
 CYCLE = 0.0025
 # Each daemon beside others has an address of its own.
 HOMES = [f"127.0.8.{it}" for it in range(60, 65)]
@@ -83,7 +84,8 @@ class Quiet(AtPaths):
     def test_each_is_taken_and_the_last_one_soon(self) -> None:
         print(f"datagrams by chance: seed {SEED}", file=sys.stderr)
         asked = [self.asked("process data", HOMES[0]), self.asked("message data", HOMES[1]),
-                 self.asked("control port", HOMES[2]), self.asked("control socket", HOMES[3], "--controls", self.folder),
+                 self.asked("control port", HOMES[2]),
+                 self.asked("control socket", HOMES[3], "--controls", self.folder),
                  self.beside_a_publisher(HOMES[4])]
         before = [it.taken() for it in asked]
         self.come([kind for it in asked for kind in it.kinds])
@@ -170,8 +172,8 @@ class NotOpen(AtPaths):
 
 
 def flood(place: tuple[str, int], datagram: bytes, seconds: float, tells: int | None = None) -> int:
-    """Starts a process that sends a datagram to a place over and over, as fast as it can, for so long and while somebody
-    is there; then it tells at that descriptor how often. Answers its number."""
+    """Starts a process that sends a datagram to a place over and over, as fast as it can, for so long and while
+    somebody is there; then it tells at that descriptor how often. Answers its number."""
     def send() -> None:
         sent, end = 0, time.monotonic() + seconds
         with socket.socket(socket.AF_INET, socket.SOCK_DGRAM) as out, contextlib.suppress(ConnectionRefusedError):

@@ -114,8 +114,7 @@ class Page(unittest.TestCase):
             self.assertIsNone(process.poll(), part)
 
     def test_all(self) -> None:
-        start, *_ = self.blocks
-        for line, _ in commands(start):
+        for line, _ in commands(self.block("$ cp examples/control/door.toml doors.toml")):
             if "daemon" in line:
                 self.start_daemons(line)
             else:

@@ -189,7 +189,8 @@ class Ends(unittest.TestCase):
 
     def test_a_writer_that_fails_ends_a_service_of_turns(self) -> None:
         with open("/dev/full", "w") as full:
-            self.assertEqual(self.ends(node(control(0)), "serve", "--turns", "0", stdout=full), (4, None, "write fault\n"))
+            ended = self.ends(node(control(0)), "serve", "--turns", "0", stdout=full)
+            self.assertEqual(ended, (4, None, "write fault\n"))
 
     def test_a_fault_that_cannot_be_told_keeps_its_status(self) -> None:
         with open("/dev/full", "w") as full:

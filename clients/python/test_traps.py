@@ -27,7 +27,7 @@ import trdp_words
 from testing import HERE, TOP
 
 sys.path.insert(0, str(TOP / "examples/control"))
-import client
+import client  # noqa: E402
 
 SOURCE, DUMP, GROUP = "127.0.8.25", "127.0.8.26", "239.192.8.25"
 PLACE = f"{SOURCE}:9"
@@ -70,7 +70,8 @@ SEND_TRAPS: list[tuple[list[str], str]] = [
     ([PLACE, "--com-id", "1", "--cycle-us", "-1"], "'-1' is no whole"),
     ([PLACE, "--com-id", "1", "--count"], "expected one"),
     ([PLACE, "--com-id", "1", "--from", "127.0.0.1"], "'127.0.0.1' has no port"),
-    *[([f"{GROUP}:9", "--com-id", "1", "--ttl", it], "is no whole number of 1 to 255") for it in ("0", "256", "-1", "x")],
+    *[([f"{GROUP}:9", "--com-id", "1", "--ttl", it], "is no whole number of 1 to 255")
+      for it in ("0", "256", "-1", "x")],
     ([PLACE, "--com-id", "1", "--type", "Mr", "--session", "x"], "'x' is neither new nor a UUID"),
     ([PLACE, "--com-id", "1", "--session", "new"], "--session: a telegram of type Pd has none"),
     ([PLACE, "--com-id", "1", "--type", "Mn", "--session", "new"], "--session: a telegram of type Mn has none"),
@@ -208,7 +209,7 @@ class Traps(Case):
     def test_a_reader_that_ends_and_a_full_device(self) -> None:
         telegram = trdp_telegram.Telegram("Pd", 1).write()
         for into, said in [("| true", "trdp_dump.py: Broken pipe"),
-        ("> /dev/full", "trdp_dump.py: No space left on device")]:
+                           ("> /dev/full", "trdp_dump.py: No space left on device")]:
             line = f"{sys.executable} {HERE}/trdp_dump.py {DUMP} --count 1 --for-us 20000000 {into}"
             with subprocess.Popen(line, shell=True, stderr=subprocess.PIPE, text=True) as dump:
                 assert dump.stderr is not None
@@ -245,10 +246,10 @@ class Unread(Case):
         with contextlib.ExitStack() as stack:
             ports = trdp_dump.Ports(trdp_dump.Where(DUMP, (), trdp_words.Interface(), (0, 0)), stack)
             bound = mock.Mock()
-            bound.recvfrom.side_effect = [BlockingIOError(11, "again"),
-            (b"abc", (SOURCE, 9)), OSError(101, "unreachable")]
-            stack.enter_context(mock.patch.object(ports.selector,
-             "select", lambda _: [(mock.Mock(data=(bound, (DUMP, 7))), 1)]))
+            bound.recvfrom.side_effect = [BlockingIOError(11, "again"), (b"abc", (SOURCE, 9)),
+                                          OSError(101, "unreachable")]
+            stack.enter_context(mock.patch.object(
+                ports.selector, "select", lambda _: [(mock.Mock(data=(bound, (DUMP, 7))), 1)]))
             taken = [it for _ in range(3) for it in ports.take(1)]
         self.assertEqual(taken, [trdp_dump.Datagram((SOURCE, 9), (DUMP, 7), b"abc")])
         self.assertEqual(ports.unread, 2)

@@ -209,7 +209,7 @@ class Configurations(unittest.TestCase):
 
     def test_control_places(self) -> None:
         node: dict[str, Any] = {"node": {"address": "10.0.0.1", "spare_control_ports": [0, 18002]},
-                "slot": [{"control_port": 18000}, {}]}
+                                "slot": [{"control_port": 18000}, {}]}
         self.assertEqual(trdp_slot.control_place(node, 0), ("10.0.0.1", 18000))
         self.assertEqual(trdp_slot.control_place(node, 3), ("10.0.0.1", 18002))
         for slot in (1, 2, 4, -1):

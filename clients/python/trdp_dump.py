@@ -24,14 +24,14 @@ The file is a node's configuration, or any other one, with its `[[dataset]]` tab
 for each comId. The node ignores these.
 
 Each group is joined at the interface of the address, or at the one that is named, and left at the end. What comes to it
-by another interface isn't shown. The line of a datagram to a group is as the others; in the file for Wireshark the group
-is its destination.
+by another interface isn't shown. The line of a datagram to a group is as the others; in the file for Wireshark the
+group is its destination.
 
 The ports are bound, so nobody else may have them, but for those of a group, where another program shares them as well.
 With `--beside`, what comes to the ports of another program, as a node, is copied from the system, which takes root. It
-goes on until it is interrupted, or by `--count` and `--for-us`. Where the system told of datagrams that it couldn't hand
-over, as one whose UDP check sum is wrong, or of packets that hold none, the last line on the error stream says how many
-these were.
+goes on until it is interrupted, or by `--count` and `--for-us`. Where the system told of datagrams that it couldn't
+hand over, as one whose UDP check sum is wrong, or of packets that hold none, the last line on the error stream says how
+many these were.
 """
 from __future__ import annotations
 
@@ -51,6 +51,7 @@ import trdp_words
 from trdp_slot import Datasets, DoesNotFit
 from trdp_telegram import MD_KINDS, MD_PORT, PD_KINDS, PD_PORT, NoTelegram, PcapngFile, Telegram, read_telegram
 
+NAME = trdp_words.name_of("trdp_dump.py")
 IP_HEADER = 20
 UDP_HEADER = 8
 # An option of the system that Python has no name for: whether a socket takes what comes to groups that others joined.
@@ -223,8 +224,8 @@ class Ports(Taker):
         home, *groups = where.homes
         for port in where.ports:
             own = self.bound((home, port), False, stack)
-            # The system takes 0.0.0.0 and a group for one place, unless both sockets share their port. Nobody else shall
-            # share that of the address.
+            # The system takes 0.0.0.0 and a group for one place, unless both sockets share their port. Nobody else
+            # shall share that of the address.
             share(own, True)
             for group in groups:
                 self.bound((group, port), True, stack)
@@ -286,8 +287,7 @@ class Beside(Taker):
 def parser() -> trdp_words.Words:
     """All words of the command line."""
     u32, port = trdp_words.number(0, trdp_words.U32_MOST), trdp_words.number(1, trdp_words.PORT_MOST)
-    words = trdp_words.Words(prog="trdp_dump.py",
-                             description="Prints the telegrams that come to the ports of an address.")
+    words = trdp_words.Words(prog=NAME, description="Prints the telegrams that come to the ports of an address.")
     words.add_argument("address", type=trdp_words.address, help="the address, as 127.0.0.2")
     words.add_argument("--group", type=trdp_words.group, action="append", default=[],
                        help="join this group, as 239.192.0.1, and print what comes to it, too; may be repeated")
@@ -297,20 +297,20 @@ def parser() -> trdp_words.Words:
     words.add_argument("--md-port", type=port, default=MD_PORT, help="port of message data (17225)")
     words.add_argument("--toml", help="a file with datasets, and [[telegram]] tables of comIds")
     words.add_argument("--com-id", type=u32, action="append", default=[],
-                        help="only telegrams of this comId; may be repeated")
+                       help="only telegrams of this comId; may be repeated")
     words.add_argument("--type", choices=[*PD_KINDS, *MD_KINDS], action="append", default=[],
-                        help="only telegrams of this type; may be repeated")
+                       help="only telegrams of this type; may be repeated")
     words.add_argument("--pcapng", help="write what is printed to this file, too, for Wireshark")
     words.add_argument("--time", action="store_true", help="the seconds since 1970 before each line")
     words.add_argument("--beside", action="store_true", help="beside the program that has the ports, as root")
     words.add_argument("--count", type=trdp_words.number(1, trdp_words.U32_MOST), help="end after so many lines")
     words.add_argument("--for-us", type=trdp_words.number(1, trdp_words.WAIT_MOST_US),
-                        help="end after so many microseconds")
+                       help="end after so many microseconds")
     return words
 
 
-def parse(words: list[str]) -> argparse.Namespace:
-    """The words of the command line."""
+def parse(words: list[str] | None) -> argparse.Namespace:
+    """The words of the command line: these, or those of the program."""
     asked = parser().parse_args(words)
     if asked.pd_port == asked.md_port:
         parser().error(f"--pd-port and --md-port are both {asked.pd_port}")
@@ -350,22 +350,22 @@ def dump(asked: argparse.Namespace, stack: contextlib.ExitStack) -> None:
     taker = Beside(where, stack) if asked.beside else Ports(where, stack)
     file = PcapngFile(stack.enter_context(open(asked.pcapng, "wb"))) if asked.pcapng else None
     homes = " and ".join(where.homes)
-    print(f"trdp_dump.py: at {homes}, ports {asked.pd_port} and {asked.md_port}", file=sys.stderr, flush=True)
+    print(f"{NAME}: at {homes}, ports {asked.pd_port} and {asked.md_port}", file=sys.stderr, flush=True)
     try:
         print_all(asked, taker, datasets, file)
     finally:
         if taker.unread:
-            print(f"trdp_dump.py: {taker.unread} datagrams couldn't be read", file=sys.stderr)
+            print(f"{NAME}: {taker.unread} datagrams couldn't be read", file=sys.stderr)
 
 
-def main(words: list[str]) -> int:
+def main(words: list[str] | None = None) -> int:
     """Exit status 0, 1 where the ports or a file can't be had, 2 for words that can't be meant."""
     asked = parse(words)
     try:
         with contextlib.ExitStack() as stack:
             dump(asked, stack)
     except (OSError, ValueError) as fault:
-        print(f"trdp_dump.py: {trdp_words.sentence(fault)}", file=sys.stderr)
+        print(f"{NAME}: {trdp_words.sentence(fault)}", file=sys.stderr)
         trdp_words.drop_output()
         return 1
     except KeyboardInterrupt:
@@ -374,4 +374,4 @@ def main(words: list[str]) -> int:
 
 
 if __name__ == "__main__":
-    sys.exit(main(sys.argv[1:]))
+    sys.exit(main())

@@ -32,6 +32,7 @@ from typing import Any
 import trdp_words
 from trdp_telegram import MD_KINDS, PD_KINDS, Telegram
 
+NAME = trdp_words.name_of("trdp_send.py")
 # Over how many links a telegram to a group goes at most, as the standard recommends.
 GROUP_TTL = 64
 NO_SESSION = uuid.UUID(int=0)
@@ -81,7 +82,7 @@ def value_of(text: str) -> Any:
 def parser() -> trdp_words.Words:
     """All words of the command line."""
     u32 = trdp_words.number(0, trdp_words.U32_MOST)
-    words = trdp_words.Words(prog="trdp_send.py", description="Sends a telegram, once or with a cycle.")
+    words = trdp_words.Words(prog=NAME, description="Sends a telegram, once or with a cycle.")
     words.add_argument("place", type=trdp_words.place(1), help="where it goes to, as 127.0.0.1:17224")
     words.add_argument("--type", choices=[*PD_KINDS, *MD_KINDS], default="Pd", help="its type (Pd)")
     words.add_argument("--com-id", type=u32, required=True)
@@ -105,7 +106,8 @@ def parser() -> trdp_words.Words:
     words.add_argument("--from", dest="source", type=trdp_words.place(0),
                        help="where it comes from, as 127.0.0.9:17224")
     words.add_argument("--ttl", type=trdp_words.number(1, 255),
-                       help=f"over how many links it goes at most, 1 to 255 ({GROUP_TTL} to a group, else the system's)")
+                       help=f"over how many links it goes at most, 1 to 255 ({GROUP_TTL} to a group, "
+                            "else the system's)")
     words.add_argument("--cycle-us", type=trdp_words.number(1, trdp_words.U32_MOST),
                        help="send it again and again, so many microseconds apart")
     words.add_argument("--count", type=trdp_words.number(1, trdp_words.U32_MOST),
@@ -113,8 +115,8 @@ def parser() -> trdp_words.Words:
     return words
 
 
-def parse(words: list[str]) -> argparse.Namespace:
-    """The words of the command line."""
+def parse(words: list[str] | None) -> argparse.Namespace:
+    """The words of the command line: these, or those of the program."""
     line = parser()
     asked = line.parse_args(words)
     for word, kinds in HEADERS.items():
@@ -198,13 +200,13 @@ def send(asked: argparse.Namespace) -> None:
                 time.sleep(max(0.0, start + sent * asked.cycle_us / 1_000_000 - time.monotonic()))
 
 
-def main(words: list[str]) -> int:
+def main(words: list[str] | None = None) -> int:
     """Exit status 0, 1 where it can't be sent or a file can't be had, 2 for words that can't be meant."""
     asked = parse(words)
     try:
         send(asked)
     except (OSError, ValueError) as fault:
-        print(f"trdp_send.py: {trdp_words.sentence(fault)}", file=sys.stderr)
+        print(f"{NAME}: {trdp_words.sentence(fault)}", file=sys.stderr)
         return 1
     except KeyboardInterrupt:
         pass
@@ -212,4 +214,4 @@ def main(words: list[str]) -> int:
 
 
 if __name__ == "__main__":
-    sys.exit(main(sys.argv[1:]))
+    sys.exit(main())

@@ -27,7 +27,8 @@ ANY_ADDRESS = "0.0.0.0"
 
 
 class Interface(NamedTuple):
-    """An interface of this machine, by an address that it has or by its number; by neither, that of the system's routes."""
+    """An interface of this machine, by an address that it has or by its number; by neither, that of the system's
+    routes."""
 
     address: str = ANY_ADDRESS
     number: int = 0
@@ -125,6 +126,12 @@ def sentence(fault: OSError | ValueError) -> str:
     if isinstance(fault, OSError) and fault.strerror:
         return fault.strerror if fault.filename is None else f"{fault.filename}: {fault.strerror}"
     return str(fault)
+
+
+def name_of(file: str) -> str:
+    """How a tool calls itself: by its file's name, or by that of the command which installing it makes."""
+    command = file.removesuffix(".py").replace("_", "-")
+    return command if os.path.basename(sys.argv[0]) == command else file
 
 
 def drop_output() -> None:
