@@ -5,16 +5,19 @@
     bench/alone.py rows
     bench/alone.py limits [PROGRAM]
 
-`bench/alone/` is a second implementation of the rules in docs/PROFILE.md, docs/MODEL.md and docs/SCRIPT.md: one slot by itself, which has
-a list of its objects and looks at each of them at every event. Nothing of it is taken from the crates, and no slot knows of another. Events
-by chance, some 5000 for each of several nodes, are played by the program and by each slot by itself: each event has to give the lines that the
-slots give, slots rising. A run tells how often each kind of line came, and fails where one never came that chance can reach. SEED `clock`
-takes the seed from the clock; it is printed.
+`bench/alone/` is a second implementation of the rules in docs/PROFILE.md, docs/MODEL.md and docs/SCRIPT.md: one slot by
+itself, which has a list of its objects and looks at each of them at every event. Nothing of it is taken from the
+crates, and no slot knows of another. Events by chance, some 5000 for each of several nodes, are played by the program
+and by each slot by itself: each event has to give the lines that the slots give, slots rising. A run tells how often
+each kind of line came, and fails where one never came that chance can reach. SEED `clock` takes the seed from the
+clock; it is printed.
 
-With `rows` the slots by themselves play all scripts that stand in the repository with their output: those of rows/ whose configuration is
-taken, and the examples. With `limits` both play a node at every limit, and a publisher's first ten thousand telegrams. The exit status is
-0 where all is alike.
+With `rows` the slots by themselves play all scripts that stand in the repository with their output: those of rows/
+whose configuration is taken, and the examples. With `limits` both play a node at every limit, and a publisher's first
+ten thousand telegrams. The exit status is 0 where all is alike.
 """
+from __future__ import annotations
+
 import os
 import subprocess
 import sys
@@ -44,16 +47,17 @@ class Wrong(Exception):
 class Run:
     """The events of one node by chance, with what its slots give by themselves."""
 
-    def __init__(self, seed, events, seen):
+    def __init__(self, seed: str, events: int, seen: Counter[str]) -> None:
         draws = Draws(Random(seed))
         self.config = config_by_chance(draws)
         beside = Beside(Settings(self.config), seen)
         chance = Chance(draws, beside, events)
         # Of each event its line, and the lines that it gives.
-        self.events = []
+        self.events: list[tuple[str, list[str]]] = []
         for _ in range(events):
             line = chance.line()
             event = read_line(line)
+            assert event is not None
             given = beside.step(event)
             for it in given:
                 chance.arrivals.note(it)
@@ -61,32 +65,33 @@ class Run:
             self.events.append((line, given))
         self.slots = len(beside.slots)
 
-    def script(self):
+    def script(self) -> str:
         return "".join(f"{line}\n{MARK}\n" for line, _ in self.events)
 
-    def compare(self, program):
+    def compare(self, program: str) -> int:
         """Compares what the program gives with what the slots give by themselves; answers how many lines these are."""
         at, played = 0, played_by(program, self.config, self.script())
         for number, (line, given) in enumerate(self.events):
             wanted = given + [MARKED]
-            if (found := played[at : at + len(wanted)]) != wanted:
+            if (found := played[at:at + len(wanted)]) != wanted:
                 raise Wrong(self.difference(number, line, wanted, found))
             at += len(wanted)
         if at != len(played):
             raise Wrong(f"{len(played) - at} lines behind the last event's")
         return at - len(self.events)
 
-    def difference(self, number, line, wanted, found):
+    def difference(self, number: int, line: str, wanted: list[str], found: list[str]) -> str:
         """Tells of an event at which they differ, and keeps what leads to it."""
         folder = tempfile.mkdtemp(prefix="alone-")
-        for name, text in (("node.toml", self.config), ("script", "".join(f"{it}\n" for it, _ in self.events[: number + 1]))):
+        script = "".join(f"{it}\n" for it, _ in self.events[:number + 1])
+        for name, text in (("node.toml", self.config), ("script", script)):
             with open(os.path.join(folder, name), "w") as file:
                 file.write(text)
         texts = (f"event {number + 1}: {line[:300]}", *shown("alone", wanted), *shown("program", found))
         return "\n".join((*texts, f"{folder} has the configuration and the script"))
 
 
-def played_by(program, config, script):
+def played_by(program: str, config: str, script: str) -> list[str]:
     """What the program gives for a script, line by line."""
     with tempfile.TemporaryDirectory() as folder:
         path = os.path.join(folder, "node.toml")
@@ -98,13 +103,14 @@ def played_by(program, config, script):
     return ran.stdout.split("\n")[:-1]
 
 
-def shown(who, lines):
+def shown(who: str, lines: list[str]) -> list[str]:
     return [f"  {who}: {line[:300]}" for line in lines]
 
 
-def by_chance(events, seed, program):
+def by_chance(events: int, seed: str, program: str) -> None:
     """Plays so many events, and tells what they came to."""
-    seen, given, slots, begun = Counter(), 0, 0, time.monotonic()
+    seen: Counter[str] = Counter()
+    given, slots, begun = 0, 0, time.monotonic()
     for first in range(0, events, EVENTS_OF_A_NODE):
         name = f"{seed}.{first // EVENTS_OF_A_NODE}"
         try:
@@ -119,7 +125,7 @@ def by_chance(events, seed, program):
         raise Wrong(f"these never came: {', '.join(missing)}")
 
 
-def by_rows():
+def by_rows() -> None:
     """Plays each script of the repository on slots by themselves."""
     count = 0
     for where, config, script, output, ending in rows.all_of(TOP):
@@ -130,7 +136,7 @@ def by_rows():
     print(f"{count} scripts give what stands beside them")
 
 
-def by_limits(program):
+def by_limits(program: str) -> None:
     """Plays the long scripts, and counts the lines that hold each word."""
     for name, config, lines, words in limits.all_of():
         script = "".join(f"{line}\n" for line in lines)
@@ -142,14 +148,15 @@ def by_limits(program):
         print(f"{name}: {len(given)} lines, alike")
 
 
-def main(words):
+def main(words: list[str]) -> None:
     default = os.environ.get("TRDPD", f"{TOP}/crates/trdpd/out/trdpd")
     if words == ["rows"]:
-        return by_rows()
-    if words[:1] == ["limits"]:
-        return by_limits(*(words[1:] or [default]))
-    events, seed, program = (words + ["40000", "1", default][len(words) :])[:3]
-    by_chance(int(events), str(time.time_ns()) if seed == "clock" else seed, program)
+        by_rows()
+    elif words[:1] == ["limits"]:
+        by_limits(*(words[1:] or [default]))
+    else:
+        events, seed, program = (words + ["40000", "1", default][len(words):])[:3]
+        by_chance(int(events), str(time.time_ns()) if seed == "clock" else seed, program)
 
 
 if __name__ == "__main__":

@@ -1,19 +1,20 @@
 #!/usr/bin/env python3
-"""What one telegram costs that comes in while `trdpd daemon` rests: system calls, and processor time, with few ports and with many.
+"""What one telegram costs that comes in while `trdpd daemon` rests: system calls, and processor time, with few ports
+and with many.
 
-    bench/calls_a_telegram.py [BEFORE] [AFTER] [SECONDS] [ROUNDS]       default: crates/trdpd/out/trdpd, both times, 5, 5
+    bench/calls_a_telegram.py [BEFORE] [AFTER] [SECONDS] [ROUNDS]     default: crates/trdpd/out/trdpd, both times, 5, 5
 
-The program before a change and the one after it have nodes of 1, 4 and 16 slots, each with a control port. Telegrams of process data that
-one subscription of slot 0 takes come at equal distances, and nothing else is due within an hour. For each node, the two in turns, the
-median over the rounds of
+The program before a change and the one after it have nodes of 1, 4 and 16 slots, each with a control port. Telegrams of
+process data that one subscription of slot 0 takes come at equal distances, and nothing else is due within an hour. For
+each node, the two in turns, the median over the rounds of
 
     calls         how many calls of the system it makes for a telegram, at 2,000 a second, as perf counts them
     at 2,000      microseconds of processor time for a telegram (user and system) at 2,000 a second, and
     at 50,000     at 50,000 a second, or as many as this script manages, which is told
 
-A telegram that the system dropped doesn't count. Which calls these are strace tells, at 200 a second; where perf doesn't work, its calls
-count. Behind that stands what the program after the change is to reach: at most 3.2 calls at each node, and with 16 slots at most 1.1
-times the processor time with one. All is at 127.0.0.1; root may always count.
+A telegram that the system dropped doesn't count. Which calls these are strace tells, at 200 a second; where perf
+doesn't work, its calls count. Behind that stands what the program after the change is to reach: at most 3.2 calls at
+each node, and with 16 slots at most 1.1 times the processor time with one. All is at 127.0.0.1; root may always count.
 """
 from __future__ import annotations
 
@@ -34,15 +35,17 @@ SLOTS = (1, 4, 16)
 SLOW, RATE, FAST = 200, 2_000, 50_000             # telegrams a second
 COM_ID = 200
 CALLS, TIMES = 3.2, 1.1                           # the goals
-STEP = 16                                         # between two counters, so that none is stale where some between them were dropped
+STEP = 16                                         # between two counters, so that none is stale where some were dropped
 SLEEPS = 0.0002                                   # seconds: a shorter distance is waited for by looking at the clock
 BEHIND = 0.05                                     # seconds in which the last telegram is taken
 QUOTAS = "publishers = 1\nsubscriptions = 1\n"
-LINES = (f"subscribe {COM_ID} 0 0.0.0.0 0.0.0.0 0.0.0.0 0 0 0 keep", f"publish 100 0 3600000000 0 0 0 {HOST}:9", "put 2 0a0b")
+LINES = (f"subscribe {COM_ID} 0 0.0.0.0 0.0.0.0 0.0.0.0 0 0 0 keep", f"publish 100 0 3600000000 0 0 0 {HOST}:9",
+         "put 2 0a0b")
 
 
 class Cost(NamedTuple):
-    """What a telegram costs: calls, and processor time in microseconds at both rates; how many there were a second at the second one."""
+    """What a telegram costs: calls, and processor time in microseconds at both rates; how many there were a second at
+    the second one."""
 
     calls: float
     at_rate: float
@@ -51,7 +54,8 @@ class Cost(NamedTuple):
 
 
 class Flow:
-    """Telegrams that come to a daemon of so many slots. Its first slot takes them, and has a publisher that isn't due soon."""
+    """Telegrams that come to a daemon of so many slots. Its first slot takes them, and has a publisher that isn't due
+    soon."""
 
     def __init__(self, program: str, slots: int) -> None:
         self.node = Node(program, ["daemon"], slots, QUOTAS)
@@ -62,7 +66,8 @@ class Flow:
         self.counter = 0
 
     def send(self, rate: int, seconds: float) -> tuple[int, float]:
-        """Sends telegrams at equal distances for so long. Answers how many the port had room for, and how many were sent a second."""
+        """Sends telegrams at equal distances for so long. Answers how many the port had room for, and how many were
+        sent a second."""
         gone, count = self.dropped(), round(rate * seconds)
         telegrams = [process_data(COM_ID, bytes(8), self.counter + STEP * it) for it in range(count)]
         self.counter += STEP * count
@@ -95,8 +100,9 @@ class Flow:
         if not shutil.which("perf"):
             return float("nan")
         # It counts from the moment on at which its command runs, which says so, and until that ends.
-        words = ["perf", "stat", "-x", ",", "-e", "raw_syscalls:sys_enter", "-p", str(self.node.process.pid), "--", "cat"]
-        with subprocess.Popen(words, stdin=subprocess.PIPE, stdout=subprocess.PIPE, stderr=subprocess.PIPE, text=True, bufsize=1) as perf:
+        node, pipe = str(self.node.process.pid), subprocess.PIPE
+        words = ["perf", "stat", "-x", ",", "-e", "raw_syscalls:sys_enter", "-p", node, "--", "cat"]
+        with subprocess.Popen(words, stdin=pipe, stdout=pipe, stderr=pipe, text=True, bufsize=1) as perf:
             assert perf.stdin and perf.stdout and perf.stderr
             try:
                 perf.stdin.write("\n")
@@ -134,7 +140,8 @@ def cost(program: str, slots: int, seconds: float, says: str) -> Cost:
         if says and names:
             print(f"{says}: " + ", ".join(f"{name} {count:.2f}" for name, count in names.items()), flush=True)
         at_rate, _ = flow.microseconds(RATE, seconds)
-        return Cost(sum(names.values()) if calls != calls and names else calls, at_rate, *flow.microseconds(FAST, seconds))
+        counted = sum(names.values()) if calls != calls and names else calls
+        return Cost(counted, at_rate, *flow.microseconds(FAST, seconds))
     finally:
         flow.node.end()
 

@@ -5,8 +5,8 @@ It was proved with the logic of the toolchain that is here, as `rt version` prin
 
     bench/command_words.py [PROGRAM]              default: crates/trdpd/out/trdpd (./run prove builds it)
 
-Prints a line for each case whose words or status differ, and then how many there were. The status is 0 where none differs. As root it
-leaves out the file that nobody may read, since root may.
+Prints a line for each case whose words or status differ, and then how many there were. The status is 0 where none
+differs. As root it leaves out the file that nobody may read, since root may.
 """
 from __future__ import annotations
 
@@ -77,7 +77,8 @@ def main(program: str = f"{TOP}/crates/trdpd/out/trdpd") -> int:
     with tempfile.TemporaryDirectory() as folder:
         rows = cases(pathlib.Path(folder))
         for words, status, output, errors in rows:
-            ran = subprocess.run([program, *words], stdin=subprocess.DEVNULL, capture_output=True, text=True, timeout=20)
+            ran = subprocess.run([program, *words], stdin=subprocess.DEVNULL, capture_output=True, text=True,
+                                 timeout=20)
             if (ran.returncode, ran.stdout, ran.stderr) != (status, output, errors):
                 faults += 1
                 print(f"{' '.join(words)}: {ran.returncode}, {ran.stdout!r}, {ran.stderr!r}")

@@ -1,15 +1,18 @@
 #!/usr/bin/env python3
-"""What a line costs at a control socket, beside one at a UDP control port, and what an application that doesn't read is told.
+"""What a line costs at a control socket, beside one at a UDP control port, and what an application that doesn't read is
+told.
 
-    bench/control_lines.py [LINES] [NOTIFICATIONS] [PROGRAM]      default: 100000 100000 crates/trdpd/out/trdpd (./run prove builds it)
+    bench/control_lines.py [LINES] [NOTIFICATIONS] [PROGRAM]
+                          default: 100000 100000 crates/trdpd/out/trdpd (./run prove builds it)
 
-Two daemons at 127.0.0.1, one with control sockets and one with UDP control ports, are sent so many lines `get 1` in turns, five times
-each, of which 1 or 64 are unanswered at a time. Tells the median of the lines a second, as the client sees them, and of the microseconds
-of processor time that the daemon takes for a line (user and system).
+Two daemons at 127.0.0.1, one with control sockets and one with UDP control ports, are sent so many lines `get 1` in
+turns, five times each, of which 1 or 64 are unanswered at a time. Tells the median of the lines a second, as the client
+sees them, and of the microseconds of processor time that the daemon takes for a line (user and system).
 
-Then so many notifications of 1,000 bytes come to a slot whose application doesn't read, while its publisher sends every 10 ms. A line
-tells how many the application was told of when it read at last, how many were lost, and how many telegrams of its publisher came. The
-exit status is 0 where every notification is in its order or counted in its place and no telegram is missing, and else 1.
+Then so many notifications of 1,000 bytes come to a slot whose application doesn't read, while its publisher sends every
+10 ms. A line tells how many the application was told of when it read at last, how many were lost, and how many
+telegrams of its publisher came. The exit status is 0 where every notification is in its order or counted in its place
+and no telegram is missing, and else 1.
 """
 from __future__ import annotations
 
@@ -92,7 +95,8 @@ class Node:
 
 
 def exchange(client: socket.socket, count: int, window: int) -> None:
-    """Has so many lines answered, of which at most so many are unanswered at a time. Over a stream an answer may come in two parts."""
+    """Has so many lines answered, of which at most so many are unanswered at a time. Over a stream an answer may come
+    in two parts."""
     size = len(ANSWER)
     for _ in range(window):
         client.send(b"get 1\n")
@@ -146,7 +150,8 @@ def texts(client: socket.socket) -> Iterator[bytes]:
 
 
 def are_told(client: socket.socket, source: str, count: int) -> tuple[int, int]:
-    """How many notifications the application is told of, and how many were lost; ends the program where one is out of its place."""
+    """How many notifications the application is told of, and how many were lost; ends the program where one is out of
+    its place."""
     came = lost = 0
     for text in texts(client):
         if found := re.fullmatch(rb"lost (\d+)", text):
@@ -163,7 +168,8 @@ def are_told(client: socket.socket, source: str, count: int) -> tuple[int, int]:
 def losses(node: Node, count: int) -> int:
     """Has so many notifications come to an application that doesn't read; answers the exit status."""
     application, fence = node.client(0), node.client(1)
-    with socket.socket(socket.AF_INET, socket.SOCK_DGRAM) as sink, socket.socket(socket.AF_INET, socket.SOCK_DGRAM) as device:
+    udp = (socket.AF_INET, socket.SOCK_DGRAM)
+    with socket.socket(*udp) as sink, socket.socket(*udp) as device:
         sink.bind((HOST, 0))
         device.connect((HOST, node.md))
         call(application, "listen 300 0.0.0.0 0.0.0.0 0.0.0.0 - 0 0", "0 handle 1")
@@ -184,8 +190,8 @@ def losses(node: Node, count: int) -> int:
         took, used = time.monotonic() - begin, node.used() - used
         came, lost = are_told(application, "{}:{}".format(*device.getsockname()), count)
     missing = counters[-1] - counters[0] + 1 - len(counters)
-    print(f"{count} notifications in {took:.1f} s, {used / count * 1e6:.1f} microseconds of processor time each: {came} are told, "
-          f"{lost} lost; {len(counters)} telegrams of {took / CYCLE:.0f} cycles, {missing} missing")
+    print(f"{count} notifications in {took:.1f} s, {used / count * 1e6:.1f} microseconds of processor time each: "
+          f"{came} are told, {lost} lost; {len(counters)} telegrams of {took / CYCLE:.0f} cycles, {missing} missing")
     return 0 if came + lost == count and missing == 0 else 1
 
 

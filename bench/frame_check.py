@@ -3,9 +3,9 @@
 
     bench/frame_check.py        needs rt, rustc and zlib's library
 
-The crate trdp_fcs is built into a static library, with a function that C calls, and linked with bench/frame_check.rs, which times all
-bodies in one process. A line has the bytes, the body, nanoseconds of a check (the best of 50 rounds), and how many times as long the
-proved body takes.
+The crate trdp_fcs is built into a static library, with a function that C calls, and linked with bench/frame_check.rs,
+which times all bodies in one process. A line has the bytes, the body, nanoseconds of a check (the best of 50 rounds),
+and how many times as long the proved body takes.
 """
 from proved_library import run
 

@@ -1,5 +1,7 @@
 #!/usr/bin/env python3
 """Writes crates/trdp_fcs/src/tables.rt: the frame check's registers past bytes of 0."""
+from __future__ import annotations
+
 
 import subprocess
 from pathlib import Path
@@ -17,14 +19,14 @@ HEAD = """\
 """
 
 
-def past_zero(register):
+def past_zero(register: int) -> int:
     """The register past one byte of 0."""
     for _ in range(8):
         register = register >> 1 ^ (GENERATOR if register % 2 else 0)
     return register
 
 
-def main():
+def main() -> None:
     row = list(range(256))
     rows = []
     for _ in range(8):

@@ -3,23 +3,24 @@
 
     bench/idle_cost.py [SECONDS] [BEFORE] [AFTER] [ROUNDS]        default: 10 crates/trdpd/out/trdpd, both times, 5
 
-bench/bare_rest.rs, which rustc builds, is that loop: it sleeps until the next telegram is due, at the moments at which the program after the
-change sent, at most a millisecond at a time, or in one piece; behind each sleep it answers what came. It, the program before a change and the one after it send the telegrams of so many
-publishers, whose phases are spread over the cycle, to a socket on this machine, in turns. For each the median over the rounds of
+bench/bare_rest.rs, which rustc builds, is that loop: it sleeps until the next telegram is due, at the moments at which
+the program after the change sent, at most a millisecond at a time, or in one piece; behind each sleep it answers what
+came. It, the program before a change and the one after it send the telegrams of so many publishers, whose phases are
+spread over the cycle, to a socket on this machine, in turns. For each the median over the rounds of
 
     processor     the share of a processor that it takes meanwhile (user and system), by the clock of its processor time
     perf          the same by `perf stat`, where that works, over a second beside
-    late          how much later than the earliest of its publisher a telegram came, by the system's stamp, median and 99 %
+    late          how much later than the earliest of its publisher a telegram came, by the system's stamp, median and
+                  99 %
     answer        how long a call waits for its answer, behind a pause of 5 to 50 ms, median and 99 %
 
-Behind each row of these stands what the program after the change is to reach: at most 1.3 times the processor time of the loop, and
-telegrams and answers at most 50 microseconds later. All is at 127.0.0.1.
+Behind each row of these stands what the program after the change is to reach: at most 1.3 times the processor time of
+the loop, and telegrams and answers at most 50 microseconds later. All is at 127.0.0.1.
 """
 from __future__ import annotations
 
 import os
 import shutil
-import socket
 import statistics
 import subprocess
 import sys
@@ -50,7 +51,8 @@ class Row(NamedTuple):
 ROWS = [Row(100, 0.02), Row(50, 0.1), Row(1, 0.01)]
 
 
-# Starts a program with the publishers of a row, which send to that port; the program before had these phases, in seconds.
+# Starts a program with the publishers of a row, which send to that port; the program before had these phases, in
+# seconds.
 Start = Callable[[Row, int, list[float]], Started]
 
 
@@ -99,7 +101,8 @@ def perf_share(process: int) -> float:
 
 
 def cost(start: Start, row: Row, seconds: float, phases: list[float]) -> tuple[Cost, list[float]]:
-    """What a program costs that sends the telegrams of a row, where one before had these phases; and the phases that it has."""
+    """What a program costs that sends the telegrams of a row, where one before had these phases; and the phases that it
+    has."""
     with stamped() as sink:
         node = start(row, sink.getsockname()[1], phases)
         try:
@@ -155,7 +158,8 @@ def measure(starts: dict[str, Start], row: Row, seconds: float, rounds: int) -> 
     sys.stdout.flush()
 
 
-def main(seconds: str = "10", before: str = f"{TOP}/crates/trdpd/out/trdpd", after: str = "", rounds: str = "5") -> None:
+def main(seconds: str = "10", before: str = f"{TOP}/crates/trdpd/out/trdpd", after: str = "",
+         rounds: str = "5") -> None:
     after = after or before
     with tempfile.TemporaryDirectory() as folder:
         bare = os.path.join(folder, "bare_rest")
@@ -166,7 +170,8 @@ def main(seconds: str = "10", before: str = f"{TOP}/crates/trdpd/out/trdpd", aft
             "bare, in pieces": lambda row, sink, phases: started_bare(bare, row, sink, phases, True),
             "bare, in one piece": lambda row, sink, phases: started_bare(bare, row, sink, phases, False),
         }
-        print(f"{'':26}{'processor':>10}{'perf':>8}{'late: median':>14}{'99 %':>8}{'answer: median':>16}{'99 %':>8}   (%, microseconds)")
+        print(f"{'':26}{'processor':>10}{'perf':>8}{'late: median':>14}{'99 %':>8}{'answer: median':>16}{'99 %':>8}   "
+              "(%, microseconds)")
         for row in ROWS:
             measure(starts, row, float(seconds), int(rounds))
 

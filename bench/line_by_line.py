@@ -3,8 +3,9 @@
 
     bench/line_by_line.py [PROGRAM]               default: crates/trdpd/out/trdpd (./run prove builds it)
 
-Writes a line, waits for what it gives, and then writes the next one; the last lines come in two pieces, and have no answer before they are
-whole. Prints how many lines were answered. The status is 0 where all were, and nothing else came.
+Writes a line, waits for what it gives, and then writes the next one; the last lines come in two pieces, and have no
+answer before they are whole. Prints how many lines were answered. The status is 0 where all were, and nothing else
+came.
 """
 from __future__ import annotations
 
@@ -21,7 +22,8 @@ PATIENCE = 10.0
 QUIET = 0.1
 LINES: list[tuple[str, list[str]]] = [
     ("call 0 publish 100 0 100000 0 0 0 10.0.0.2:17224", ["0 handle 1"]), ("call 0 put 1 0a0b", ["0 done"]),
-    ("moment 100000", ["0 send pd 10.0.0.2:17224 000000000100506400000064000000000000000000000002000000000000000000000000ec179c940a0b0000"]),
+    ("moment 100000", ["0 send pd 10.0.0.2:17224 0000000001005064000000640000000000000000000000020000000000000000"
+                       "00000000ec179c940a0b0000"]),
     ("moment 5", ["fault Past"]), ("# get 1", []), ("call 2 get 1", ["fault NoSlot"]),
     *[(f"call 0 get {it}", ["0 refused NoHandle"]) for it in range(2, 12)],
 ]

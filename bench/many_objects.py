@@ -3,16 +3,20 @@
 
     bench/many_objects.py [LINES] [PROGRAM]       default: 400000 lines, crates/trdpd/out/trdpd (./run builds it)
 
-Each row plays a script of that many equal lines from a file to a file, with so many objects open, and again without them: the cost
-of a line is that of the longer script less that of its first half, the least of five runs. Reading and printing a line is in it.
-Objects of one kind have comIds of their own; one of them is concerned. The telegrams' frame checks are zlib's.
+Each row plays a script of that many equal lines from a file to a file, with so many objects open, and again without
+them: the cost of a line is that of the longer script less that of its first half, the least of five runs. Reading and
+printing a line is in it. Objects of one kind have comIds of their own; one of them is concerned. The telegrams' frame
+checks are zlib's.
 """
+from __future__ import annotations
+
 import os
 import struct
 import subprocess
 import sys
 import tempfile
 import zlib
+from collections.abc import Callable, Iterable, Iterator
 
 TOP = os.path.dirname(os.path.dirname(os.path.abspath(__file__)))
 RUNS = 5
@@ -22,19 +26,19 @@ TAKEN, UNKNOWN = 200, 7                                               # comIds o
 LATE = 2**32 - 1                                                      # the longest cycle, in microseconds
 
 
-def config(slots):
+def config(slots: int) -> str:
     """A configuration of so many slots, each with all the objects of each kind that there may be."""
     kinds = ("publishers", "subscriptions", "requesters", "listeners", "callers", "repliers")
     slot = "[[slot]]\n" + "".join(f"{kind} = 256\n" for kind in kinds)
     return '[node]\naddress = "10.0.0.1"\n' + slot * slots
 
 
-def telegram(counter, com_id):
+def telegram(counter: int, com_id: int) -> str:
     head = struct.pack(">IH2s7I", counter, 0x0100, b"Pd", com_id, 0, 0, 8, 0, 0, 0)
     return (head + struct.pack("<I", zlib.crc32(head)) + struct.pack(">Q", counter)).hex()
 
 
-def subscriptions(objects, slots):
+def subscriptions(objects: int, slots: int) -> Iterator[str]:
     """One subscription is for the comId that is taken, and no other one is."""
     for slot in range(slots):
         for i in range(objects):
@@ -42,7 +46,7 @@ def subscriptions(objects, slots):
             yield f"call {slot} subscribe {com_id} 0 0.0.0.0 0.0.0.0 0.0.0.0 0 0 0 keep"
 
 
-def publishers(objects, slots, cycle, first_cycle):
+def publishers(objects: int, slots: int, cycle: int, first_cycle: int) -> Iterator[str]:
     """All have the one cycle but the first, which has its own."""
     for slot in range(slots):
         for i in range(objects):
@@ -51,15 +55,15 @@ def publishers(objects, slots, cycle, first_cycle):
             yield f"call {slot} put {i + 1} 00"
 
 
-def telegrams(com_id, count):
+def telegrams(com_id: int, count: int) -> Iterator[str]:
     return (f"pd {PLACES} {telegram(i * 16 % 2**32, com_id)}" for i in range(count))
 
 
-def moments(step, count):
+def moments(step: int, count: int) -> Iterator[str]:
     return (f"moment {(i + 1) * step}" for i in range(count))
 
 
-def seconds(program, settings, lines):
+def seconds(program: str, settings: str, lines: Iterable[str]) -> float:
     """Processor time of one run over these lines, from a file to a file."""
     with tempfile.TemporaryFile() as script, tempfile.TemporaryFile() as out:
         script.write("".join(line + "\n" for line in lines).encode())
@@ -68,37 +72,40 @@ def seconds(program, settings, lines):
         _, status, usage = os.wait4(ran.pid, 0)
         if status != 0:
             sys.exit(f"{program} ended with {status}")
-        return usage.ru_utime + usage.ru_stime
+        spent: float = usage.ru_utime + usage.ru_stime
+        return spent
 
 
 class Row:
     """So many equal lines behind those that open the objects, with the acts of each line."""
 
-    def __init__(self, name, opening, lines, count, acts=1):
+    def __init__(self, name: str, opening: Iterable[str], lines: Callable[[int], Iterable[str]], count: int,
+                 acts: int = 1) -> None:
         self.name, self.opening, self.lines, self.count, self.acts = name, list(opening), lines, count, acts
 
-    def cost(self, program, settings):
+    def cost(self, program: str, settings: str) -> float:
         """Nanoseconds for each act of a line, of those behind the first half."""
         first = self.count // 2
         half, whole = (self.seconds(program, settings, it) for it in (first, self.count))
         return (whole - half) / (self.count - first) / self.acts * 1e9
 
-    def seconds(self, program, settings, count):
+    def seconds(self, program: str, settings: str, count: int) -> float:
         """The least processor time of some runs over so many lines."""
         return min(seconds(program, settings, self.opening + list(self.lines(count))) for _ in range(RUNS))
 
 
-def rows(objects, slots, count):
+def rows(objects: int, slots: int, count: int) -> Iterator[Row]:
     """The rows of so many objects in each of so many slots, of so many lines."""
     all_of = objects * slots
     yield Row("taken", subscriptions(objects, slots), lambda n: telegrams(TAKEN, n), count)
     yield Row("nobody's", subscriptions(objects, slots), lambda n: telegrams(UNKNOWN, n), count)
     yield Row("nothing due", publishers(objects, slots, LATE, LATE), lambda n: moments(0, n), count)
     yield Row("one due", publishers(objects, slots, LATE, 1000), lambda n: moments(1000, n), count)
-    yield Row("each of all due", publishers(objects, slots, 1000, 1000), lambda n: moments(1000, n), max(count // all_of, 20), all_of)
+    yield Row("each of all due", publishers(objects, slots, 1000, 1000), lambda n: moments(1000, n),
+              max(count // all_of, 20), all_of)
 
 
-def main():
+def main() -> None:
     count = int(sys.argv[1]) if len(sys.argv) > 1 else 400_000
     program = sys.argv[2] if len(sys.argv) > 2 else f"{TOP}/crates/trdpd/out/trdpd"
     print("objects a slot  slots   taken nobody's nothing due  one due  each of all due")

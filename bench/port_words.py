@@ -3,8 +3,8 @@
 
     bench/port_words.py [PROGRAM]                 default: crates/trdpd/out/trdpd (./run prove builds it)
 
-For each case some ports are held by others, at 127.0.7.1 or at 127.0.7.2. Prints a line for each case whose words or status differ, and
-then how many there were. The status is 0 where none differs.
+For each case some ports are held by others, at 127.0.7.1 or at 127.0.7.2. Prints a line for each case whose words or
+status differ, and then how many there were. The status is 0 where none differs.
 """
 from __future__ import annotations
 
@@ -36,9 +36,11 @@ operator at {kept}:{operator}
 slot 0 at {kept}:{control}: 0 publishers, 0 subscriptions, 0 requesters, 0 listeners, 1 callers, 0 repliers
 slots that are added have, at {kept}, the ports {spare} 0 {last}
 """
-USUAL = {"home": HOME, "kept": KEPT, "pd": PD, "md": MD, "operator": OPERATOR, "control": CONTROL, "spare": SPARE, "last": LAST}
+USUAL = {"home": HOME, "kept": KEPT, "pd": PD, "md": MD, "operator": OPERATOR, "control": CONTROL, "spare": SPARE,
+         "last": LAST}
 Place = tuple[str, int]
-# What others hold, what differs from the usual configuration, and the places that are refused, in the order in which they are bound.
+# What others hold, what differs from the usual configuration, and the places that are refused, in the order in which
+# they are bound.
 CASES: list[tuple[list[Place], dict[str, str | int], list[Place]]] = [
     ([(HOME, PD)], {}, [(HOME, PD)]),
     ([(HOME, MD)], {}, [(HOME, MD)]),
@@ -48,16 +50,20 @@ CASES: list[tuple[list[Place], dict[str, str | int], list[Place]]] = [
     ([(KEPT, LAST)], {}, [(KEPT, LAST)]),
     ([(KEPT, LAST), (HOME, PD), (KEPT, CONTROL)], {}, [(HOME, PD), (KEPT, CONTROL), (KEPT, LAST)]),
     # What is held at the other one of the two addresses hinders nothing.
-    ([(KEPT, PD), (KEPT, MD), (HOME, OPERATOR), (HOME, CONTROL), (HOME, SPARE), (HOME, LAST), (KEPT, SPARE)], {}, [(KEPT, SPARE)]),
+    ([(KEPT, PD), (KEPT, MD), (HOME, OPERATOR), (HOME, CONTROL), (HOME, SPARE), (HOME, LAST), (KEPT, SPARE)], {},
+     [(KEPT, SPARE)]),
 ]
-# What others hold and is refused, what differs from the usual configuration, and the places that two keys name, with both keys.
+# What others hold and is refused, what differs from the usual configuration, and the places that two keys name, with
+# both keys.
 TWICE: list[tuple[list[Place], dict[str, str | int], list[tuple[Place, str]]]] = [
     ([], {"md": PD}, [((HOME, PD), "pd_port and md_port")]),
     ([(HOME, PD)], {"md": PD}, [((HOME, PD), "pd_port and md_port")]),
     ([], {"kept": HOME, "control": MD, "last": SPARE},
-     [((HOME, MD), "md_port and slot 0, control_port"), ((HOME, SPARE), "spare_control_ports[0] and spare_control_ports[2]")]),
+     [((HOME, MD), "md_port and slot 0, control_port"),
+      ((HOME, SPARE), "spare_control_ports[0] and spare_control_ports[2]")]),
     ([], {"operator": SPARE, "last": SPARE},
-     [((KEPT, SPARE), "operator_port and spare_control_ports[0]"), ((KEPT, SPARE), "operator_port and spare_control_ports[2]")]),
+     [((KEPT, SPARE), "operator_port and spare_control_ports[0]"),
+      ((KEPT, SPARE), "operator_port and spare_control_ports[2]")]),
     ([], {"home": "0.0.0.0", "operator": MD}, [((KEPT, MD), "md_port and operator_port")]),
 ]
 EVERYWHERE = "warning: address is 0.0.0.0: its ports are at every interface, and a telegram counts as sent to 0.0.0.0\n"
@@ -93,7 +99,8 @@ def differs(program: str, held: list[Place], other: dict[str, str | int], refuse
 
 def main(words: list[str]) -> int:
     program = words[0] if words else f"{TOP}/crates/trdpd/out/trdpd"
-    cases = [(held, other, refused, []) for held, other, refused in CASES]
+    cases: list[tuple[list[Place], dict[str, str | int], list[Place], list[tuple[Place, str]]]] = []
+    cases += [(held, other, refused, []) for held, other, refused in CASES]
     cases += [(held, other, held, twice) for held, other, twice in TWICE]
     differ = sum(differs(program, *case) for case in cases)
     print(f"{len(cases)} configurations, {differ} differ")

@@ -1,15 +1,19 @@
 """Builds proved code as a static library and runs a program of bench/ that is linked with it."""
+from __future__ import annotations
+
 import os
 import shutil
 import subprocess
 import tempfile
+from collections.abc import Sequence
 
 TOP = os.path.dirname(os.path.dirname(os.path.abspath(__file__)))
 
 
-def lines_of(names):
+def lines_of(names: list[str]) -> list[str]:
     """The lines of crates.txt of these crates and of all that they stand on."""
-    needed, lines = set(names), []
+    needed = set(names)
+    lines: list[str] = []
     with open(f"{TOP}/crates.txt") as crates:
         for line in reversed(crates.read().splitlines()):
             name, _, under = line.partition(":")
@@ -19,17 +23,17 @@ def lines_of(names):
     return lines
 
 
-def write(path, text):
+def write(path: str, text: str) -> None:
     os.makedirs(os.path.dirname(path), exist_ok=True)
     with open(path, "w") as out:
         out.write(text)
 
 
-def run(program, names, sources, links=()):
+def run(program: str, names: list[str], sources: dict[str, str], links: Sequence[str] = ()) -> None:
     """Runs bench/PROGRAM.rs with a library for C of these sources, by file name, which uses the named crates.
 
-    The library is proved and built in a folder of its own; what is built of the crates is taken along. Both compilers build for
-    x86-64-v2.
+    The library is proved and built in a folder of its own; what is built of the crates is taken along. Both compilers
+    build for x86-64-v2.
     """
     with tempfile.TemporaryDirectory() as top:
         subprocess.run(["git", "init", "-q", top], check=True)
@@ -45,5 +49,6 @@ def run(program, names, sources, links=()):
         subprocess.run(["rt", "lib", "--jobs", "2"], cwd=library, check=True, stdout=subprocess.DEVNULL)
         rustc = ["rustc", "--edition", "2024", "-C", "opt-level=3", "-C", "target-cpu=x86-64-v2"]
         links = [word for name in ["static=for_c", *links] for word in ("-l", name)]
-        subprocess.run([*rustc, f"{TOP}/bench/{program}.rs", "-o", f"{top}/{program}", "-L", f"native={library}/out", *links], check=True)
+        words = [f"{TOP}/bench/{program}.rs", "-o", f"{top}/{program}", "-L", f"native={library}/out", *links]
+        subprocess.run([*rustc, *words], check=True)
         subprocess.run([f"{top}/{program}"], check=True)

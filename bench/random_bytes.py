@@ -4,11 +4,14 @@
     bench/random_bytes.py [DATAGRAMS [SECONDS [SEED [PROGRAM]]]]
                           default: 200000 datagrams, at most 60 s, seed 1, crates/trdpd/out/trdpd (./run builds it)
 
-Starts `trdpd serve` at 127.0.0.1 with a port of each kind and a publisher that sends every millisecond, and sends datagrams of 0 to
-65507 bytes, the most that UDP carries, round after round: one at each port, and then a line at the control port and one at the
-operator's, which must be answered. The daemon ends by itself, with its turns: then its totals must have as many datagrams taken as
-were sent, and none lost, unread or without memory. The exit status is 0 where all of this holds.
+Starts `trdpd serve` at 127.0.0.1 with a port of each kind and a publisher that sends every millisecond, and sends
+datagrams of 0 to 65507 bytes, the most that UDP carries, round after round: one at each port, and then a line at the
+control port and one at the operator's, which must be answered. The daemon ends by itself, with its turns: then its
+totals must have as many datagrams taken as were sent, and none lost, unread or without memory. The exit status is 0
+where all of this holds.
 """
+from __future__ import annotations
+
 import os
 import random
 import socket
@@ -31,7 +34,7 @@ class Wrong(Exception):
     """What a daemon must not do."""
 
 
-def free_ports(count):
+def free_ports(count: int) -> list[int]:
     """So many UDP ports that nobody has."""
     sockets = [socket.socket(socket.AF_INET, socket.SOCK_DGRAM) for _ in range(count)]
     for it in sockets:
@@ -42,7 +45,7 @@ def free_ports(count):
     return ports
 
 
-def write_config(folder, ports):
+def write_config(folder: str, ports: dict[str, int]) -> str:
     path = os.path.join(folder, "node.toml")
     with open(path, "w") as config:
         config.write(f"[node]\naddress = \"{HOME}\"\n")
@@ -51,31 +54,33 @@ def write_config(folder, ports):
     return path
 
 
-def memory(pid):
+def memory(pid: int) -> tuple[int, int]:
     """What a process holds, in KiB: in RAM, and of data at all."""
     with open(f"/proc/{pid}/status") as status:
         words = dict(line.split(":", 1) for line in status)
-    return tuple(int(words[key].split()[0]) for key in ("VmRSS", "VmData"))
+    in_ram, of_data = (int(words[key].split()[0]) for key in ("VmRSS", "VmData"))
+    return in_ram, of_data
 
 
 class Peer:
     """Sends to the ports of one daemon: random bytes from sockets of their own, and lines that must be answered."""
 
-    def __init__(self, ports):
+    def __init__(self, ports: dict[str, int]) -> None:
         self.ports, self.count, self.bytes, self.answers = ports, 0, 0, 0
-        self.stranger, self.application, self.sink = (socket.socket(socket.AF_INET, socket.SOCK_DGRAM) for _ in range(3))
+        sockets = (socket.socket(socket.AF_INET, socket.SOCK_DGRAM) for _ in range(3))
+        self.stranger, self.application, self.sink = sockets
         for it in (self.stranger, self.application, self.sink):
             it.bind((HOME, 0))
         self.stranger.setblocking(False)
         self.sink.setblocking(False)
         self.application.settimeout(20)
 
-    def send(self, sender, kind, datagram):
+    def send(self, sender: socket.socket, kind: str, datagram: bytes) -> None:
         sender.sendto(datagram, (HOME, self.ports[kind]))
         self.count += 1
         self.bytes += len(datagram)
 
-    def ask(self, kind, line, answer):
+    def ask(self, kind: str, line: str, answer: str) -> None:
         """Sends a line, which must be answered so."""
         self.send(self.application, kind, line.encode())
         try:
@@ -86,7 +91,7 @@ class Peer:
             raise Wrong(f"{line[:60]!r} is answered by {text[:60]!r}")
         self.answers += 1
 
-    def drain(self):
+    def drain(self) -> None:
         """Takes what came for the random bytes, which is nothing but line faults, and the publisher's telegrams."""
         for it in (self.stranger, self.sink):
             try:
@@ -96,7 +101,7 @@ class Peer:
             except BlockingIOError:
                 pass
 
-    def round(self, datagrams, value):
+    def round(self, datagrams: list[bytes], value: bytes) -> None:
         for kind, datagram in zip(KINDS, datagrams):
             self.send(self.stranger, kind, datagram)
         self.ask("control", f"put 1 {value.hex() or '-'}", "0 done\n")
@@ -104,29 +109,31 @@ class Peer:
         self.drain()
 
 
-def lengths_at_random(source):
+def lengths_at_random(source: random.Random) -> list[int]:
     return [source.choice(LENGTHS) if source.random() < 0.3 else source.randint(0, MOST) for _ in KINDS]
 
 
-def seconds_a_turn(program, config):
+def seconds_a_turn(program: str, config: str) -> float:
     """What an idle turn takes."""
     turns, start = 1_000_000, time.monotonic()
     subprocess.run([program, "serve", config, "--turns", str(turns)], check=True, stdout=subprocess.DEVNULL)
     return (time.monotonic() - start) / turns
 
 
-def play(peer, pid, datagrams, seconds, source):
+def play(peer: Peer, pid: int, datagrams: int, seconds: int,
+         source: random.Random) -> tuple[tuple[int, int], tuple[int, int], float]:
     """Sends so many datagrams within so many seconds; answers the memory before and after, and the seconds."""
     before, start = None, time.monotonic()
     peer.ask("control", f"publish 100 0 1000 0 0 0 {HOME}:{peer.sink.getsockname()[1]}", "0 handle 1\n")
     while peer.count < datagrams and time.monotonic() - start < seconds:
-        peer.round([source.randbytes(it) for it in lengths_at_random(source)], source.randbytes(source.randint(0, 1432)))
+        datagrams_of_all = [source.randbytes(it) for it in lengths_at_random(source)]
+        peer.round(datagrams_of_all, source.randbytes(source.randint(0, 1432)))
         if before is None and peer.count >= WARM:
             before = memory(pid)
     return before or memory(pid), memory(pid), time.monotonic() - start
 
 
-def main(words):
+def main(words: list[str]) -> None:
     datagrams, seconds, seed = (int(word) for word in (words + ["200000", "60", "1"][len(words):])[:3])
     program = os.path.abspath(words[3]) if len(words) > 3 else f"{TOP}/crates/trdpd/out/trdpd"
     ports = dict(zip(KINDS, free_ports(len(KINDS))))
@@ -143,7 +150,8 @@ def main(words):
             totals = ran.communicate(timeout=20 * seconds)[0]
         finally:
             ran.kill()
-    print(f"{peer.count} datagrams, {peer.bytes} bytes, {peer.answers} answers in {took:.0f} s; seed {seed}, {turns} turns")
+    print(f"{peer.count} datagrams, {peer.bytes} bytes, {peer.answers} answers in {took:.0f} s; "
+          f"seed {seed}, {turns} turns")
     print(f"KiB in RAM {before[0]}, then {after[0]}; KiB of data {before[1]}, then {after[1]}")
     print(totals, end="")
     words = totals.split()

@@ -3,10 +3,10 @@
 
     bench/read_heads.py         needs rt and rustc
 
-The crate trdp_head is built into a static library, with functions that C calls, and linked with bench/read_heads.rs, which times its
-`read_pd` and `read_md` and those of bench/plain_heads.rs in one process. Each answer is folded into a number by bench/folded.rs, which is
-built into both. A line has the telegram, its bytes, whether its frame check is right, nanoseconds of a reading (the best of 400
-rounds), and how many times as long the proved body takes.
+The crate trdp_head is built into a static library, with functions that C calls, and linked with bench/read_heads.rs,
+which times its `read_pd` and `read_md` and those of bench/plain_heads.rs in one process. Each answer is folded into a
+number by bench/folded.rs, which is built into both. A line has the telegram, its bytes, whether its frame check is
+right, nanoseconds of a reading (the best of 400 rounds), and how many times as long the proved body takes.
 """
 from proved_library import TOP, run
 

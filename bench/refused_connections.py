@@ -1,15 +1,18 @@
 #!/usr/bin/env python3
-"""Refuses one call of `trdpd daemon` at its control sockets, each in turn, while two applications make calls at two of them.
+"""Refuses one call of `trdpd daemon` at its control sockets, each in turn, while two applications make calls at two of
+them.
 
     bench/refused_connections.py [PROGRAM]        default: crates/trdpd/out/trdpd (./run prove builds it)
 
-A call accepts a connection, reads from one or writes to one, and is refused by EINTR, ENOMEM, EMFILE or ECONNRESET. One application at
-the most may notice: its connection ends behind the answers to some of its first calls. All calls of the other one are answered, each
-once and in order; and so are both when they come again.
+A call accepts a connection, reads from one or writes to one, and is refused by EINTR, ENOMEM, EMFILE or ECONNRESET. One
+application at the most may notice: its connection ends behind the answers to some of its first calls. All calls of the
+other one are answered, each once and in order; and so are both when they come again.
 
-A line has the call and the error, how many runs there were, and in how many of them a connection ended. The exit status is 0 where
-nothing failed, and else 1. gcc must be on PATH.
+A line has the call and the error, how many runs there were, and in how many of them a connection ended. The exit status
+is 0 where nothing failed, and else 1. gcc must be on PATH.
 """
+from __future__ import annotations
+
 import errno
 import os
 import socket
@@ -17,15 +20,17 @@ import subprocess
 import sys
 import tempfile
 import time
+from collections.abc import Iterable
 
-from refused import BENCH, built
+from refused import BENCH, Library, built
 
 HOST = "127.0.7.3"
 PD, MD, FIRST = 18731, 18732, 18733
 CALLS = 4
 KINDS = ("accept", "receive", "send")
 ERRORS = ("EINTR", "ENOMEM", "EMFILE", "ECONNRESET")
-# How many calls are refused at most, one a run: a read that finds nothing is a call too, and there are as many as there are turns.
+# How many calls are refused at most, one a run: a read that finds nothing is a call too, and there are as many as there
+# are turns.
 MOST = 40
 # Seconds: a connection that wasn't accepted is accepted in a turn of the next second.
 PATIENCE = 5
@@ -41,7 +46,7 @@ PUBLISH = b"publish 100 0 0 0 0 0 127.0.7.4:17224\n"
 class Application:
     """The connection of an application at the path of a slot, and the answers that came."""
 
-    def __init__(self, folder, slot):
+    def __init__(self, folder: str, slot: int) -> None:
         self.slot = slot
         self.socket = socket.socket(socket.AF_UNIX, socket.SOCK_STREAM)
         self.socket.settimeout(PATIENCE)
@@ -57,13 +62,13 @@ class Application:
                     raise
                 time.sleep(0.002)
 
-    def say(self, line):
+    def say(self, line: bytes) -> None:
         try:
             self.socket.sendall(line)
         except (BrokenPipeError, ConnectionResetError):
             self.is_over = True
 
-    def hear(self, answers):
+    def hear(self, answers: int) -> None:
         """Hears so many answers in all, or the end of the connection."""
         while not self.is_over and self.came.count(b"\n") < answers:
             try:
@@ -73,15 +78,15 @@ class Application:
             self.is_over = not more
             self.came += more
 
-    def is_right(self, handles):
-        """Whether the answers that came are those to the first calls, whose handles begin with one of these; all of them, if it
-        isn't over."""
+    def is_right(self, handles: Iterable[int]) -> bool:
+        """Whether the answers that came are those to the first calls, whose handles begin with one of these; all of
+        them, if it isn't over."""
         count = self.came.count(b"\n")
         wanted = [b"".join(b"%d handle %d\n" % (self.slot, first + it) for it in range(count)) for first in handles]
         return self.came in wanted and (self.is_over or count == CALLS)
 
 
-def make_calls(folder):
+def make_calls(folder: str) -> list[Application]:
     """Two applications that have made their calls, call by call beside each other."""
     both = [Application(folder, slot) for slot in range(2)]
     for number in range(1, CALLS + 1):
@@ -94,7 +99,7 @@ def make_calls(folder):
     return both
 
 
-def are_right(first, again):
+def are_right(first: list[Application], again: list[Application]) -> bool:
     """Whether all is as it should be with two applications, and with those that came again."""
     if sum(it.is_over for it in first + again) > 1:
         return False
@@ -106,9 +111,9 @@ def are_right(first, again):
     return True
 
 
-def run(library, words, folder, kind, number, error):
-    """Runs a daemon of which a call is refused. Answers whether it was, whether all is as it should be, and how many connections
-    ended."""
+def run(library: Library, words: list[str], folder: str, kind: str, number: int, error: str) -> tuple[bool, bool, int]:
+    """Runs a daemon of which a call is refused. Answers whether it was, whether all is as it should be, and how many
+    connections ended."""
     environment = library.environment((kind, number), refused_error=getattr(errno, error))
     process = subprocess.Popen(words, env=environment, stderr=subprocess.PIPE, text=True)
     try:
@@ -125,7 +130,7 @@ def run(library, words, folder, kind, number, error):
     return f"refused {kind} {number}\n" in errors, right, ended
 
 
-def main(program):
+def main(program: str) -> int:
     if not os.path.exists(program):
         sys.exit(f"refused_connections.py: {program} is missing: ./run prove builds it")
     failed = 0
@@ -143,7 +148,8 @@ def main(program):
                     if not was_refused:
                         break
                     runs, ends = runs + 1, ends + ended
-                print(f"{kind}, {error}: {runs} calls, each refused in turn: {ends} connections ended; {wrong} runs failed")
+                print(f"{kind}, {error}: {runs} calls, each refused in turn: {ends} connections ended; "
+                      f"{wrong} runs failed")
                 failed += wrong + (runs == 0)
     return 1 if failed else 0
 

@@ -1,16 +1,19 @@
 #!/usr/bin/env python3
 """Refuses each request for memory of a test, one in each run.
 
-    bench/refused_memory.py [CRATE [TEST]]      default: all tests that pass whichever request is refused; of CRATE alone, or TEST alone
+    bench/refused_memory.py [CRATE [TEST]]      default: all tests that pass whichever request is refused
 
-The test must pass each time. It is the one in crates/CRATE/out/CRATE_tests, which `rt test` in crates/CRATE proves and builds. A line
-has the test, how many requests it has, and how many runs failed. The exit status is 0 where the tests passed in every run, and else 1.
+With CRATE it is those of CRATE alone, or TEST alone. The test must pass each time. It is the one in
+crates/CRATE/out/CRATE_tests, which `rt test` in crates/CRATE proves and builds. A line has the test, how many requests
+it has, and how many runs failed. The exit status is 0 where the tests passed in every run, and else 1.
 `rt try --test --fail-alloc N` is one such run without proof, which takes a minute.
 """
+from __future__ import annotations
+
 import os
 import sys
 
-from refused import BENCH, built
+from refused import BENCH, Library, built
 
 TESTS = [
     ("trdp_parts_tests", "objects::caller_keeps_its_payload"),
@@ -23,7 +26,7 @@ TESTS = [
 ]
 
 
-def failures(library, crate, test):
+def failures(library: Library, crate: str, test: str) -> tuple[int, int]:
     """How many requests the test has, and how many runs failed of those in which one of them is refused."""
     program = os.path.join(os.path.dirname(BENCH), "crates", crate, "out", f"{crate}_tests")
     if not os.path.exists(program):
@@ -40,8 +43,8 @@ def failures(library, crate, test):
     return requests, failed
 
 
-def main(words):
-    tests = [it for it in TESTS if words == list(it)[:len(words)]] or [tuple(words)]
+def main(words: list[str]) -> int:
+    tests: list[tuple[str, ...]] = [it for it in TESTS if words == list(it)[:len(words)]] or [tuple(words)]
     if len(tests[0]) != 2:
         sys.exit(__doc__)
     total = 0

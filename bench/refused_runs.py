@@ -3,27 +3,38 @@
 
     bench/refused_runs.py [PROGRAM]             default: crates/trdpd/out/trdpd (./run prove builds it)
 
-A call is a request for memory, a read of the configuration's file, a read of the script, or a write of the output; reads and writes pass
-on a byte at a time, some bytes, so that they end within lines, or all. What a run may come to stands in docs/SCRIPT.md:
+A call is a request for memory, a read of the configuration's file, a read of the script, or a write of the output;
+reads and writes pass on a byte at a time, some bytes, so that they end within lines, or all. What a run may come to
+stands in docs/SCRIPT.md:
 
-    memory    status 4 with `memory fault`, and the text of some first lines of the script, or status 1 with `config fault OutOfMemory`
-              and no text; or all is as without refusal. A later request that is refused leaves no less text.
+    memory    status 4 with `memory fault`, and the text of some first lines of the script, or status 1 with `config
+              fault OutOfMemory` and no text; or all is as without refusal. A later request that is refused leaves no
+              less text.
     config    status 1 with `config fault Unreadable`, and no text
     read      status 4 with `read fault`, and the text of exactly the lines that had come whole
     write     status 4 with `write fault`, and what the writes before passed on
 
-A line has the script, the kind of calls, the bytes that one passes on, how many there are, how many runs came to each end, and how many
-failed. Then come a script that takes 72,019 reads, and writes that are interrupted. The exit status is 0 where nothing failed, and else
-1. gcc must be on PATH.
+A line has the script, the kind of calls, the bytes that one passes on, how many there are, how many runs came to each
+end, and how many failed. Then come a script that takes 72,019 reads, and writes that are interrupted. The exit status
+is 0 where nothing failed, and else 1. gcc must be on PATH.
 """
+from __future__ import annotations
+
 import collections
 import os
 import struct
+import subprocess
 import sys
 import tempfile
 import zlib
+from typing import Any
 
-from refused import BENCH, built
+from refused import BENCH, Library, built
+
+# Lines of a script, each with the text that it gives.
+Lines = list[tuple[str, str]]
+# A status, and what stands on the error stream and in the output.
+End = tuple[int, str, str]
 
 # Two applications with all kinds of objects, and two datasets.
 SLOT = """\
@@ -53,42 +64,42 @@ MD_PLACE = "10.0.0.2:17225"
 SESSION = "00000000-0000-0000-0000-000000000001"
 
 
-def with_check(head, payload):
+def with_check(head: bytes, payload: bytes) -> str:
     """A telegram's text: its header, the frame check of that, the payload, and zeros up to a multiple of four."""
     return (head + struct.pack("<I", zlib.crc32(head)) + payload + bytes(-len(payload) % 4)).hex()
 
 
-def data(com_id, payload):
+def data(com_id: int, payload: bytes) -> str:
     """Process data with counter 0, without topology counts."""
     return with_check(struct.pack(">IH2s7I", 0, 0x0100, b"Pd", com_id, 0, 0, len(payload), 0, 0, 0), payload)
 
 
-def message(kind, com_id, time, payload):
+def message(kind: bytes, com_id: int, time: int, payload: bytes) -> str:
     """A message of session 1, without topology counts, status and URIs."""
     head = struct.pack(">IH2s4Ii", 0, 0x0100, kind, com_id, 0, 0, len(payload), 0)
     return with_check(head + (1).to_bytes(16, "big") + struct.pack(">I", time) + bytes(64), payload)
 
 
-def publish(slot, com_id, cycle):
+def publish(slot: int, com_id: int, cycle: int) -> str:
     return f"call {slot} publish {com_id} 0 {cycle} 0 0 0 {PD_PLACE}\n"
 
 
-def request(slot):
+def request(slot: int) -> tuple[str, str]:
     """A call that sends a request, and its text."""
     line = f"call {slot} request 300 {SESSION} 1 1000000 - - 0 0 {MD_PLACE} 0d\n"
     return line, f"{slot} handle 1\n{slot} send md {MD_PLACE} {message(b'Mr', 300, 1000000, bytes([0x0d]))}\n"
 
 
-def replied(slot):
+def replied(slot: int) -> str:
     return f"{slot} replied 1 {MD_PLACE} Mp 0 301 0c\n{slot} closed 1 Done\n"
 
 
-def sent(slot, com_id, payload):
+def sent(slot: int, com_id: int, payload: bytes) -> str:
     return f"{slot} send pd {PD_PLACE} {data(com_id, payload)}\n"
 
 
 # Scripts: the lines, each with the text that it gives. The last line of the first one has a fault.
-SCRIPTS = {
+SCRIPTS: dict[str, Lines] = {
     "up to a bad line": [
         (publish(0, 100, 100000).replace("\n", "\r\n"), "0 handle 1\n"),
         ("\n", ""),
@@ -119,7 +130,7 @@ SCRIPTS = {
 }
 
 
-def text_of(lines, count):
+def text_of(lines: Lines, count: int) -> str:
     """What the script gives for the lines that end within its first so many bytes."""
     text, end = "", 0
     for line, gives in lines:
@@ -130,17 +141,18 @@ def text_of(lines, count):
     return text
 
 
-def whole_of(lines):
+def whole_of(lines: Lines) -> End:
     """What a script comes to where nothing is refused."""
     output = "".join(gives for _, gives in lines)
     status, errors = (3, f"line {len(lines)} fault Count\n") if lines[-1][0] == "moment" else (0, "")
     return status, errors, output
 
 
-def end_of(lines, kind, piece, number, ran):
+def end_of(lines: Lines, kind: str, piece: int, number: int, ran: subprocess.CompletedProcess[str]) -> str | None:
     """What a run came to in which that call was refused; None where it may not come to this."""
     whole = whole_of(lines)
     end = ran.returncode, ran.stderr, ran.stdout
+    allowed: dict[str, list[End]]
     if kind == "memory":
         fronts = ["".join(gives for _, gives in lines[:count]) for count in range(len(lines))]
         allowed = {"memory fault": [(4, "memory fault\n", front) for front in fronts],
@@ -154,15 +166,17 @@ def end_of(lines, kind, piece, number, ran):
     return next((name for name, ends in allowed.items() if end in ends), None)
 
 
-def failures(library, words, name, lines, kind, piece):
+def failures(library: Library, words: list[str], name: str, lines: Lines, kind: str, piece: int) -> int:
     """Refuses each call of a kind in turn, tells what the runs came to, and answers how many failed."""
     # Where a write is refused the script comes at once, and its text leaves from one place.
-    settings = {"input": "".join(line for line, _ in lines), "write_piece" if kind == "write" else "read_piece": piece}
+    passes_on = "write_piece" if kind == "write" else "read_piece"
+    settings: dict[str, Any] = {"input": "".join(line for line, _ in lines), passes_on: piece}
     calls, whole = library.count(words, kind, **settings)
     if (whole.returncode, whole.stderr, whole.stdout) != whole_of(lines) or calls == 0:
         print(f"{name}: not as it should be where nothing is refused\n{whole.stdout}{whole.stderr}", end="")
         return 1
-    ends, failed, least = collections.Counter(), 0, 0
+    ends: collections.Counter[str | None] = collections.Counter()
+    failed = least = 0
     for number in range(1, calls + 1):
         ran = library.run(words, refused=(kind, number), **settings)
         end = end_of(lines, kind, piece, number, ran)
@@ -177,17 +191,18 @@ def failures(library, words, name, lines, kind, piece):
     return failed
 
 
-def comes_byte_by_byte(library, words):
-    """Whether a script runs to its end that takes 72,019 reads, more than a number of 16 bits counts; answers 1 where it doesn't."""
+def comes_byte_by_byte(library: Library, words: list[str]) -> int:
+    """Whether a script runs to its end that takes 72,019 reads, more than a number of 16 bits counts; answers 1 where
+    it doesn't."""
     script = "# remark\n" * 8000 + "moment 5\nmoment 4\n"
     reads, ran = library.count(words, "read", input=script, read_piece=1)
     print(f"byte by byte: {reads} reads, status {ran.returncode}, {ran.stdout}", end="")
     return int((reads, ran.returncode, ran.stdout, ran.stderr) != (len(script) + 1, 0, "fault Past\n", ""))
 
 
-def writes_are_interrupted(library, words):
-    """How a script ends whose writes pass on a byte after 999 interruptions in a row, or after 1,000, which are a fault; answers how
-    many of the two fail.
+def writes_are_interrupted(library: Library, words: list[str]) -> int:
+    """How a script ends whose writes pass on a byte after 999 interruptions in a row, or after 1,000, which are a
+    fault; answers how many of the two fail.
     """
     lines = SCRIPTS["up to a bad line"]
     text, whole = "".join(line for line, _ in lines), whole_of(lines)
@@ -199,7 +214,7 @@ def writes_are_interrupted(library, words):
     return failed
 
 
-def main(program):
+def main(program: str) -> int:
     if not os.path.exists(program):
         sys.exit(f"refused_runs.py: {program} is missing: ./run prove builds it")
     failed = 0

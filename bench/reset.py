@@ -3,17 +3,21 @@
 
     bench/reset.py [SECONDS] [PROGRAM]            default: 20 seconds, crates/trdpd/out/trdpd (./run prove builds it)
 
-First how long the answer to `reset` takes over a control port of `trdpd serve`, where the node has 16 slots and each has all its 1,536
-objects, 256 of each kind, beside one of a slot that has none: in turns, the median of each. Then how much later than the earliest the
-telegrams of a publisher of 10 ms leave `trdpd daemon`, by the system's stamp at the socket that they come to, while the slot beside it
-fills and resets itself without end; and the same while that slot does nothing. All is at 127.0.0.1.
+First how long the answer to `reset` takes over a control port of `trdpd serve`, where the node has 16 slots and each
+has all its 1,536 objects, 256 of each kind, beside one of a slot that has none: in turns, the median of each. Then how
+much later than the earliest the telegrams of a publisher of 10 ms leave `trdpd daemon`, by the system's stamp at the
+socket that they come to, while the slot beside it fills and resets itself without end; and the same while that slot
+does nothing. All is at 127.0.0.1.
 """
+from __future__ import annotations
+
 import os
 import signal
 import socket
 import statistics
 import sys
 import time
+from collections.abc import Iterable, Iterator
 
 from alone.telegrams import Message, write_md
 from rest import HOST, TOP, Node, share, telegrams
@@ -27,8 +31,9 @@ LATE = 2**32 - 1                                  # the longest time, in microse
 CYCLE = 0.01                                      # seconds
 
 
-def calls(count):
-    """The lines by which a slot gets so many objects of each kind but repliers. Their comIds are one another's neighbours."""
+def calls(count: int) -> Iterator[str]:
+    """The lines by which a slot gets so many objects of each kind but repliers. Their comIds are one another's
+    neighbours."""
     for i in range(count):
         yield f"publish {1000 + i} 0 {LATE} 0 0 0 {NOWHERE}"
         yield f"subscribe {1000 + i} 0 0.0.0.0 0.0.0.0 0.0.0.0 0 0 {LATE} keep"
@@ -40,12 +45,12 @@ def calls(count):
 class FullNode(Node):
     """A node of 16 slots that may have 256 objects of each kind."""
 
-    def __init__(self, program):
+    def __init__(self, program: str) -> None:
         super().__init__(program, ["serve", "--turns", "4294967295"], SLOTS, QUOTAS)
         self.peer = socket.socket(socket.AF_INET, socket.SOCK_DGRAM)
         self.sessions = 2**64
 
-    def heard(self, slots):
+    def heard(self, slots: Iterable[int]) -> None:
         """Has 256 requests come in. Each of these slots answers by a line for each of them."""
         for _ in range(OBJECTS):
             self.sessions += 1
@@ -54,12 +59,12 @@ class FullNode(Node):
             for slot in slots:
                 self.clients[slot].recv(256)
 
-    def fill(self, slot):
+    def fill(self, slot: int) -> None:
         for line in calls(OBJECTS):
             if " handle " not in (told := self.call(line, slot)):
                 sys.exit(f"{line}: {told}")
 
-    def timed_reset(self):
+    def timed_reset(self) -> float:
         """How long the answer to a reset of slot 0 takes, in microseconds."""
         start = time.perf_counter()
         told = self.call("reset")
@@ -67,8 +72,9 @@ class FullNode(Node):
         return taken if told == "0 done" else sys.exit(told)
 
 
-def resets(program):
-    """How long a reset of slot 0 takes that has all its objects, and one that has none: the median of each, in microseconds."""
+def resets(program: str) -> tuple[float, float]:
+    """How long a reset of slot 0 takes that has all its objects, and one that has none: the median of each, in
+    microseconds."""
     node = FullNode(program)
     for slot in range(1, SLOTS):
         node.fill(slot)
@@ -84,7 +90,7 @@ def resets(program):
     return statistics.median(full), statistics.median(empty)
 
 
-def busy(node):
+def busy(node: Node) -> int:
     """Starts a process that fills slot 1 and resets it, without end. Answers its id."""
     child = os.fork()
     if child == 0:
@@ -98,9 +104,9 @@ def busy(node):
     return child
 
 
-def lateness(came):
-    """How much later each telegram left than one that is on time, in microseconds. A moment that was missed has no telegram, so that what is
-    told is how far each is behind the moment before it: less than a cycle."""
+def lateness(came: list[float]) -> list[float]:
+    """How much later each telegram left than one that is on time, in microseconds. A moment that was missed has no
+    telegram, so that what is told is how far each is behind the moment before it: less than a cycle."""
     phases = [(moment - came[0]) % CYCLE for moment in came]
     usual = statistics.median(phases)
     behind = [(phase - usual + CYCLE / 4) % CYCLE * 1e6 for phase in phases]
@@ -108,8 +114,9 @@ def lateness(came):
     return [max(0, it - on_time) for it in behind]
 
 
-def late(program, seconds, beside):
-    """How late the telegrams of slot 0's publisher are, in microseconds, beside a slot that fills and resets itself or does nothing."""
+def late(program: str, seconds: int, beside: bool) -> list[float]:
+    """How late the telegrams of slot 0's publisher are, in microseconds, beside a slot that fills and resets itself or
+    does nothing."""
     node = Node(program, ["daemon"], 2, QUOTAS)
     child = busy(node) if beside else None
     came, _ = telegrams(node, seconds, CYCLE)
@@ -120,15 +127,17 @@ def late(program, seconds, beside):
     return lateness(came)
 
 
-def main(words):
+def main(words: list[str]) -> None:
     seconds = int(words[0]) if words else 20
     program = words[1] if len(words) > 1 else f"{TOP}/crates/trdpd/out/trdpd"
     full, empty = resets(program)
-    print(f"reset of {OBJECTS * len(KINDS)} objects beside {OBJECTS * len(KINDS) * (SLOTS - 1)} others: {full:.0f} microseconds, "
+    objects = OBJECTS * len(KINDS)
+    print(f"reset of {objects} objects beside {objects * (SLOTS - 1)} others: {full:.0f} microseconds, "
           f"of none {empty:.0f}")
     for name, beside in (("alone", False), ("beside fills and resets", True)):
         times = late(program, seconds, beside)
-        print(f"late, {name}: median {share(times, 0.5):.0f}, 99 % {share(times, 0.99):.0f}, most {max(times):.0f} microseconds")
+        print(f"late, {name}: median {share(times, 0.5):.0f}, 99 % {share(times, 0.99):.0f}, most {max(times):.0f} "
+              "microseconds")
 
 
 if __name__ == "__main__":

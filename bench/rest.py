@@ -3,10 +3,11 @@
 
     bench/rest.py [SECONDS] [PROGRAM]             default: 60 seconds, crates/trdpd/out/trdpd (./run prove builds it)
 
-For each of the two: the share of a processor that a node takes at which nothing comes, with three ports and a publisher of 100 ms;
-how late its telegrams leave, by the system's stamp at the socket that they come to, from the earliest one on; and how long a call
-waits for its answer, behind a pause of 5 to 50 ms. Then how long it waits while the control port of the slot beside it is sent to
-without end, and while the ports of process data and of message data are. All is at 127.0.0.1.
+For each of the two: the share of a processor that a node takes at which nothing comes, with three ports and a publisher
+of 100 ms; how late its telegrams leave, by the system's stamp at the socket that they come to, from the earliest one
+on; and how long a call waits for its answer, behind a pause of 5 to 50 ms. Then how long it waits while the control
+port of the slot beside it is sent to without end, and while the ports of process data and of message data are. All is
+at 127.0.0.1.
 """
 from __future__ import annotations
 
@@ -31,8 +32,8 @@ HOST = "127.0.0.1"
 CYCLE = 0.1                                       # seconds
 CALLS = 300
 SO_TIMESTAMPNS = 35                               # Linux: the moment at which a datagram came, in nanoseconds
-CLOCK_OF = 2                                      # Linux: of a process's clocks, that of its processor time as it is scheduled
-LOOKS = 0.005                                     # seconds between two looks at what came, so that no telegram has a process wake
+CLOCK_OF = 2                                      # Linux: of a process's clocks, that of its processor time
+LOOKS = 0.005                                     # seconds between two looks at what came, so that none wakes a process
 
 
 class Started:
@@ -116,7 +117,8 @@ def arrivals(sink: socket.socket, seconds: float) -> Iterator[tuple[float, bytes
 
 
 def telegrams(node: Started, seconds: float, cycle: float = CYCLE) -> tuple[list[float], float]:
-    """When the telegrams of a publisher of that cycle came, in seconds, and the share of a processor that the node took meanwhile."""
+    """When the telegrams of a publisher of that cycle came, in seconds, and the share of a processor that the node took
+    meanwhile."""
     sink = stamped()
     node.call(f"publish 100 0 {int(cycle * 1e6)} 0 0 0 {HOST}:{sink.getsockname()[1]}")
     node.call("put 1 0a0b")
@@ -126,8 +128,9 @@ def telegrams(node: Started, seconds: float, cycle: float = CYCLE) -> tuple[list
 
 
 def lateness(came: Sequence[float], cycle: float = CYCLE) -> list[float]:
-    """How much later than the earliest each telegram left, in microseconds, where one is due each cycle. Half of them are on time, and
-    none is three quarters of a cycle late. A moment that was missed has no telegram, so that each is behind the moment before it."""
+    """How much later than the earliest each telegram left, in microseconds, where one is due each cycle. Half of them
+    are on time, and none is three quarters of a cycle late. A moment that was missed has no telegram, so that each is
+    behind the moment before it."""
     phases = [(moment - came[0]) % cycle for moment in came]
     usual = share(phases, 0.5)
     behind = [(phase - usual + cycle / 4) % cycle * 1e6 for phase in phases]
@@ -197,7 +200,8 @@ def main(words: list[str]) -> None:
     seconds = int(words[0]) if words else 60
     program = words[1] if len(words) > 1 else f"{TOP}/crates/trdpd/out/trdpd"
     kinds = {"daemon": ["daemon"], "serve": ["serve", "--turns", "4294967295"]}
-    print(f"{'':36}{'processor':>12}{'late: median':>14}{'99 %':>8}{'answer: median':>16}{'99 %':>8}   (%, microseconds)")
+    print(f"{'':36}{'processor':>12}{'late: median':>14}{'99 %':>8}{'answer: median':>16}{'99 %':>8}   "
+          "(%, microseconds)")
     for name, kind in kinds.items():
         quiet_row(program, name, kind, seconds)
     floods: list[tuple[str, Callable[[Node], int], bytes]] = [

@@ -3,9 +3,11 @@
 
     bench/script_lines.py [LINES] [PROGRAM]       default: 1000000 lines, crates/trdpd/out/trdpd (./run builds it)
 
-Two scripts of that many lines over examples/node.toml are played from a file to a file: puts alone, and a mix of moments, puts,
-datagrams that a subscription takes, and gets. The telegrams' frame checks are zlib's.
+Two scripts of that many lines over examples/node.toml are played from a file to a file: puts alone, and a mix of
+moments, puts, datagrams that a subscription takes, and gets. The telegrams' frame checks are zlib's.
 """
+from __future__ import annotations
+
 import os
 import struct
 import subprocess
@@ -13,24 +15,25 @@ import sys
 import tempfile
 import time
 import zlib
+from collections.abc import Iterable, Iterator
 
 TOP = os.path.dirname(os.path.dirname(os.path.abspath(__file__)))
 OPEN = ["call 0 publish 100 0 100000 0 0 0 10.0.0.2:17224", "call 0 subscribe 200 0 0.0.0.0 0.0.0.0 0.0.0.0 0 0 0 keep"]
 
 
-def telegram(counter, payload):
+def telegram(counter: int, payload: bytes) -> bytes:
     """A process data telegram of comId 200."""
     head = struct.pack(">IHHIIIIIII", counter, 0x0100, 0x5064, 200, 0, 0, len(payload), 0, 0, 0)
     return head + struct.pack("<I", zlib.crc32(head)) + payload + bytes(-len(payload) % 4)
 
 
-def puts(count):
+def puts(count: int) -> Iterator[str]:
     yield from OPEN
     for i in range(count - 2):
         yield f"call 0 put 1 {i % 65536:04x}"
 
 
-def mixed(count):
+def mixed(count: int) -> Iterator[str]:
     yield from OPEN
     for i in range(count - 2):
         if i % 4 == 0:
@@ -43,13 +46,13 @@ def mixed(count):
             yield "call 0 get 2"
 
 
-def peak(pid):
+def peak(pid: int) -> int:
     """The most memory that a process has held so far, in KiB."""
     with open(f"/proc/{pid}/status") as status:
         return next((int(line.split()[1]) for line in status if line.startswith("VmHWM:")), 0)
 
 
-def play(program, lines):
+def play(program: str, lines: Iterable[str]) -> tuple[float, int, int]:
     """Plays the lines; answers seconds of processor time, the most memory in KiB, and the lines that came out."""
     with tempfile.TemporaryFile() as script, tempfile.TemporaryFile() as out:
         for line in lines:
@@ -67,7 +70,7 @@ def play(program, lines):
         return usage.ru_utime + usage.ru_stime, memory, sum(1 for _ in out)
 
 
-def main():
+def main() -> None:
     count = int(sys.argv[1]) if len(sys.argv) > 1 else 1_000_000
     program = sys.argv[2] if len(sys.argv) > 2 else f"{TOP}/crates/trdpd/out/trdpd"
     print(f"{'script':8}{'lines':>10}{'seconds':>9}{'lines/s':>12}{'peak MiB':>10}{'lines out':>11}")

@@ -3,12 +3,14 @@
 
     bench/serve.py [TURNS] [PROGRAM]              default: 200000 turns, crates/trdpd/out/trdpd (./run builds it)
 
-bench/bare_loop.rs, which rustc builds, is that loop: the same clock, ports, turns and numbers of datagrams of the same size, and
-no protocol. Each row is run up to three times, one program after the other, and the least processor time (user and system) counts,
-without that of the turns in which nothing came or went. All is at 127.0.0.1: two processes send what comes in as fast as they can,
-and what goes out reaches sockets that nobody reads. With strace on PATH the system calls are counted too. It takes some 20 seconds,
-twice as long on a busy machine.
+bench/bare_loop.rs, which rustc builds, is that loop: the same clock, ports, turns and numbers of datagrams of the same
+size, and no protocol. Each row is run up to three times, one program after the other, and the least processor time
+(user and system) counts, without that of the turns in which nothing came or went. All is at 127.0.0.1: two processes
+send what comes in as fast as they can, and what goes out reaches sockets that nobody reads. With strace on PATH the
+system calls are counted too. It takes some 20 seconds, twice as long on a busy machine.
 """
+from __future__ import annotations
+
 import os
 import re
 import shutil
@@ -20,6 +22,7 @@ import sys
 import tempfile
 import time
 import zlib
+from collections.abc import Sequence
 
 TOP = os.path.dirname(os.path.dirname(os.path.abspath(__file__)))
 HOST = "127.0.0.1"
@@ -31,17 +34,19 @@ SOL_UDP, UDP_SEGMENT = 17, 103                    # Linux: one send of many data
 BATCH = 10                                        # datagrams of one send
 CALLS = 100                                       # calls that are made before their answers are read
 FLOODERS = 2
+# Seconds of processor time, and a program's totals.
+Served = tuple[float, dict[str, int]]
 FEW = 1000                                        # fewer datagrams than these tell nothing
 
 
-def telegram(kind, counter, com_id, payload):
+def telegram(kind: bytes, counter: int, com_id: int, payload: bytes) -> bytes:
     """A telegram of that type (Pd, Pr), topology counts 0."""
     head = struct.pack(">IH2s7I", counter, 0x0100, kind, com_id, 0, 0, len(payload), 0, 0, 0)
     return head + struct.pack("<I", zlib.crc32(head)) + payload + bytes(-len(payload) % 4)
 
 
 # Counters are 16 apart, so that none is stale where many between them were lost.
-def telegrams(com_id):
+def telegrams(com_id: int) -> list[bytes]:
     return [telegram(b"Pd", i * 16, com_id, i.to_bytes(PAYLOAD, "big")) for i in range(1000)]
 
 
@@ -52,22 +57,24 @@ PUBLISH = f"publish 100 0 {{cycle}} 0 0 0 {HOST}:{{sink}}"
 SUBSCRIBE = "subscribe {com_id} 0 0.0.0.0 0.0.0.0 0.0.0.0 0 0 0 keep"
 
 
-def subscriptions(count):
+def subscriptions(count: int) -> list[str]:
     """Calls by which the last of so many subscriptions is for comId 200."""
     return [SUBSCRIBE.format(com_id=200 + count - 1 - i) for i in range(count)]
 
 
-def publishers(cycle, count):
+def publishers(cycle: int, count: int) -> list[str]:
     """Calls by which so many publishers have a value."""
     puts = [f"put {handle} {bytes(PAYLOAD).hex()}" for handle in range(1, count + 1)]
     return [PUBLISH.replace("{cycle}", str(cycle))] * count + puts
 
 
 class Row:
-    """What is measured: the calls before, the datagrams that come, at which port (0 process data, 2 control), and the bytes of
-    the reply to each. Without datagrams it is the telegrams that are sent by themselves. `scale` is for the number of turns."""
+    """What is measured: the calls before, the datagrams that come, at which port (0 process data, 2 control), and the
+    bytes of the reply to each. Without datagrams it is the telegrams that are sent by themselves. `scale` is for the
+    number of turns."""
 
-    def __init__(self, name, calls=(), come=(), port=0, reply=0, scale=1.0):
+    def __init__(self, name: str, calls: Sequence[str] = (), come: Sequence[bytes] = (), port: int = 0, reply: int = 0,
+                 scale: float = 1.0) -> None:
         self.name, self.calls, self.come, self.port, self.reply, self.scale = name, calls, come, port, reply, scale
 
 
@@ -89,7 +96,7 @@ ROWS = [
 ]
 
 
-def free_ports(count):
+def free_ports(count: int) -> list[int]:
     """Numbers of so many UDP ports that nobody has at the moment."""
     held = [socket.socket(socket.AF_INET, socket.SOCK_DGRAM) for _ in range(count)]
     for taken in held:
@@ -100,7 +107,7 @@ def free_ports(count):
     return numbers
 
 
-def wait_until_bound(port, process):
+def wait_until_bound(port: int, process: int) -> None:
     """Waits until somebody has that UDP port, or the process has ended."""
     pattern = f":{port:04X} "
     while os.waitid(os.P_PID, process, os.WEXITED | os.WNOHANG | os.WNOWAIT) is None:
@@ -109,7 +116,7 @@ def wait_until_bound(port, process):
                 return
 
 
-def make_calls(port, calls):
+def make_calls(port: int, calls: Sequence[str]) -> bool:
     """Makes the calls at a control port. Answers whether each took effect before the program ended."""
     with socket.socket(socket.AF_INET, socket.SOCK_DGRAM) as client:
         client.settimeout(5)
@@ -127,9 +134,9 @@ def make_calls(port, calls):
     return True
 
 
-def flood(port, come, gate):
-    """Starts a process that sends the datagrams to a port, over and over, from the first byte in a pipe on until nobody has the
-    port. Answers its id."""
+def flood(port: int, come: Sequence[bytes], gate: tuple[int, int]) -> int:
+    """Starts a process that sends the datagrams to a port, over and over, from the first byte in a pipe on until nobody
+    has the port. Answers its id."""
     child = os.fork()
     if child == 0:
         try:
@@ -141,7 +148,7 @@ def flood(port, come, gate):
     return child
 
 
-def send_all(port, come):
+def send_all(port: int, come: Sequence[bytes]) -> None:
     """Sends the datagrams to a port, over and over, until nobody has it."""
     parts = [b"".join(come[i:i + BATCH]) for i in range(0, len(come), BATCH)]
     with socket.socket(socket.AF_INET, socket.SOCK_DGRAM) as out:
@@ -152,18 +159,19 @@ def send_all(port, come):
                 out.send(part)
 
 
-def end(child):
+def end(child: int) -> None:
     """Ends a process that flood started."""
     os.kill(child, signal.SIGKILL)
     os.waitpid(child, 0)
 
 
-def run(words, row, ports, calls):
-    """Runs a program, makes the calls and lets the datagrams come. Answers seconds of processor time, and its totals without the
-    calls; none where it had taken its turns before the calls were made."""
+def run(words: list[str], row: Row, ports: list[int], calls: Sequence[str]) -> Served:
+    """Runs a program, makes the calls and lets the datagrams come. Answers seconds of processor time, and its totals
+    without the calls; none where it had taken its turns before the calls were made."""
     gate = os.pipe()
     children = [flood(ports[row.port], row.come, gate) for _ in range(FLOODERS if row.come else 0)]
     ran = subprocess.Popen(words, stdout=subprocess.PIPE, text=True)
+    assert ran.stdout is not None
     try:
         wait_until_bound(ports[2], ran.pid)
         called = make_calls(ports[2], calls)
@@ -191,14 +199,14 @@ def run(words, row, ports, calls):
 class Bench:
     """The programs, the sockets that nobody reads, and where files are."""
 
-    def __init__(self, program, folder):
+    def __init__(self, program: str, folder: str) -> None:
         self.program, self.folder = program, folder
         self.bare = f"{folder}/bare_loop"
         subprocess.run(["rustc", "-O", "-o", self.bare, f"{TOP}/bench/bare_loop.rs"], check=True)
         self.sink = socket.socket(socket.AF_INET, socket.SOCK_DGRAM)
         self.sink.bind((HOST, 0))
 
-    def serve(self, row, turns, before=()):
+    def serve(self, row: Row, turns: int, before: Sequence[str] = ()) -> Served:
         """Seconds of processor time, and the totals, of trdpd."""
         ports = free_ports(3)
         config = f"{self.folder}/node.toml"
@@ -208,14 +216,14 @@ class Bench:
         calls = [call.replace("{sink}", str(self.sink.getsockname()[1])) for call in row.calls]
         return run([*before, self.program, "serve", config, "--turns", str(turns)], row, ports, calls)
 
-    def loop(self, row, turns, sends):
+    def loop(self, row: Row, turns: int, sends: int) -> Served:
         """The same of the bare loop, which sends so many telegrams by itself."""
         ports = free_ports(3)
         words = [turns, row.reply, sends, len(telegrams(200)[0]), self.sink.getsockname()[1], *ports]
         return run([self.bare, *map(str, words)], row, ports, ())
 
 
-def counted(row, totals, turns):
+def counted(row: Row, totals: dict[str, int], turns: int) -> int:
     """How many of what the row measures there were."""
     if not totals:
         return 0
@@ -224,13 +232,13 @@ def counted(row, totals, turns):
     return totals["offered"] if row.calls else turns
 
 
-def share(row, seconds, totals, turns, idle):
+def share(row: Row, seconds: float, totals: dict[str, int], turns: int, idle: float) -> float:
     """Seconds for one of what the row measures, without the turns in which nothing came or went."""
     busy = totals["taken"] if row.come else 0
     return (seconds - (turns - busy) * idle) / counted(row, totals, turns)
 
 
-def compare(bench, row, turns, idle):
+def compare(bench: Bench, row: Row, turns: int, idle: list[float]) -> list[float]:
     """The least seconds for one of what the row measures, of trdpd and of the bare loop."""
     best = [float("inf"), float("inf")]
     began = time.monotonic()
@@ -249,18 +257,19 @@ def compare(bench, row, turns, idle):
     return best
 
 
-def measure(bench, turns):
+def measure(bench: Bench, turns: int) -> None:
     """Prints a line for each row."""
     print(f"{'microseconds of processor time':34}{'serve':>9}{'bare':>9}{'ratio':>8}{'serve/s':>12}")
-    idle = [0, 0]
+    idle = [0.0, 0.0]
     for row in ROWS:
         best = compare(bench, row, int(turns * row.scale), idle)
         if row is IDLE:
             idle = best
-        print(f"{row.name:34}{best[0] * 1e6:9.3f}{best[1] * 1e6:9.3f}{best[0] / best[1]:8.2f}{1 / best[0]:12.0f}", flush=True)
+        print(f"{row.name:34}{best[0] * 1e6:9.3f}{best[1] * 1e6:9.3f}{best[0] / best[1]:8.2f}{1 / best[0]:12.0f}",
+              flush=True)
 
 
-def count_calls(bench, turns, words, row):
+def count_calls(bench: Bench, turns: int, words: list[str], row: Row) -> dict[str, int]:
     """The system calls as strace with these words counts them: by name."""
     log = f"{bench.folder}/strace"
     bench.serve(row, turns, ["strace", "-f", *words, "-c", "-o", log])
@@ -269,14 +278,15 @@ def count_calls(bench, turns, words, row):
     return {name: int(count) for count, name in rows if name != "total"}
 
 
-def watch(bench, turns):
+def watch(bench: Bench, turns: int) -> None:
     """Prints the system calls of idle turns, and those for memory of few and of many turns."""
     if not shutil.which("strace"):
         print("strace isn't there: system calls aren't counted")
         return
     idle = 10_000
     calls = count_calls(bench, idle, [], IDLE)
-    print(f"system calls of {idle} idle turns:", *(f"{name} {count}" for name, count in calls.items() if count >= idle / 10))
+    often = [f"{name} {count}" for name, count in calls.items() if count >= idle / 10]
+    print(f"system calls of {idle} idle turns:", *often)
     # Only these calls stop for strace, so that the turns stay fast.
     memory = ["--seccomp-bpf", "-e", "trace=memory"]
     for row in (WANTED, PUT, CYCLIC):
@@ -284,7 +294,7 @@ def watch(bench, turns):
         print(f"system calls for memory, {row.name}: {few} in {turns} turns, {many} in {turns * 3}", flush=True)
 
 
-def main():
+def main() -> None:
     turns = int(sys.argv[1]) if len(sys.argv) > 1 else 200_000
     program = sys.argv[2] if len(sys.argv) > 2 else f"{TOP}/crates/trdpd/out/trdpd"
     with tempfile.TemporaryDirectory() as folder:

@@ -3,10 +3,12 @@
 
     bench/storm.py [PROGRAM]                      default: crates/trdpd/out/trdpd (./run prove builds it)
 
-A raw socket sends a line that is none to a control port or an operator's port, as if it came from another such port: the port itself,
-the other one of the node, and that of a second node. All datagrams between these ports are counted for half a second: the forged one,
-and one answer. The status is 0 where each case has two.
+A raw socket sends a line that is none to a control port or an operator's port, as if it came from another such port:
+the port itself, the other one of the node, and that of a second node. All datagrams between these ports are counted for
+half a second: the forged one, and one answer. The status is 0 where each case has two.
 """
+from __future__ import annotations
+
 import os
 import socket
 import struct
@@ -14,6 +16,7 @@ import subprocess
 import sys
 import tempfile
 import time
+from typing import IO
 
 TOP = os.path.dirname(os.path.dirname(os.path.abspath(__file__)))
 HOST = "127.0.0.1"
@@ -22,23 +25,24 @@ CASES = [(FIRST[1], FIRST[1]), (FIRST[0], FIRST[0]), (FIRST[1], FIRST[0]), (FIRS
          (FIRST[1], SECOND[1]), (FIRST[0], SECOND[0])]
 
 
-def node(program, ports, first):
+def node(program: str, ports: tuple[int, int], first: int) -> tuple[subprocess.Popen[bytes], IO[str]]:
     """Starts a daemon with these ports, and two from that number on for its telegrams."""
     config = tempfile.NamedTemporaryFile("w", suffix=".toml")
     config.write(f'[node]\naddress = "{HOST}"\npd_port = {first}\nmd_port = {first + 1}\noperator_port = {ports[0]}\n'
                  f"[[slot]]\ncontrol_port = {ports[1]}\n")
     config.flush()
-    return subprocess.Popen([program, "daemon", config.name], stdout=subprocess.DEVNULL, stderr=subprocess.DEVNULL), config
+    words = [program, "daemon", config.name]
+    return subprocess.Popen(words, stdout=subprocess.DEVNULL, stderr=subprocess.DEVNULL), config
 
 
-def forge(source, to, payload):
+def forge(source: int, to: int, payload: bytes) -> None:
     """Sends a datagram from the source port, whoever has that."""
     udp = struct.pack(">HHHH", source, to, 8 + len(payload), 0) + payload
     with socket.socket(socket.AF_INET, socket.SOCK_RAW, socket.IPPROTO_UDP) as raw:
         raw.sendto(udp, (HOST, 0))
 
 
-def counted(sniffer, seconds):
+def counted(sniffer: socket.socket, seconds: float) -> int:
     """How many datagrams to one of the ports come meanwhile."""
     end, count = time.monotonic() + seconds, 0
     while True:
@@ -53,7 +57,7 @@ def counted(sniffer, seconds):
             return count
 
 
-def main(words):
+def main(words: list[str]) -> int:
     program = words[0] if words else f"{TOP}/crates/trdpd/out/trdpd"
     nodes = [node(program, FIRST, 28020), node(program, SECOND, 28030)]
     time.sleep(0.5)

@@ -12,9 +12,9 @@ TOP = pathlib.Path(__file__).resolve().parent.parent
 # The program's own tables: what they have between quotes are words that it reads or prints.
 WORD_TABLES = (
     "trdp_dataset/src/key.rt", "trdp_dataset/src/element.rt", "trdp_script/src/form.rt", "trdp_script/src/words.rt",
-    "trdp_script/src/names.rt", "trdp_script/src/print.rt", "trdp_script/src/print_message.rt", "trdp_script/src/read.rt",
-    "trdp_script/src/read_message.rt", "trdp_script/specs/RecordText.antt", "trdp_program/specs/ConfigNames.antt",
-    "trdpd/src/command.rt", "trdpd/src/main.rt",
+    "trdp_script/src/names.rt", "trdp_script/src/print.rt", "trdp_script/src/print_message.rt",
+    "trdp_script/src/read.rt", "trdp_script/src/read_message.rt", "trdp_script/specs/RecordText.antt",
+    "trdp_program/specs/ConfigNames.antt", "trdpd/src/command.rt", "trdpd/src/main.rt",
 )
 VISIBLE = r"(?:pub(?:\([\w ]+\))? )?"
 CLAUSES = re.compile(r"\b(?:ensures|requires)\*? (\w+) \{")
@@ -24,7 +24,8 @@ GHOSTS = re.compile(r"\bghost (\w+) =")
 
 @dataclasses.dataclass
 class Declared:
-    """All names, the functions that stand by themselves, the items of each type, trait, module and crate, and the files."""
+    """All names, the functions that stand by themselves, the items of each type, trait, module and crate, and the
+    files."""
 
     names: set[str] = dataclasses.field(default_factory=set)
     functions: set[str] = dataclasses.field(default_factory=set)
@@ -66,7 +67,8 @@ def opened(line: str) -> tuple[str, str, str]:
 
 
 def member(kind: str, line: str) -> str:
-    """The item that a line in the block of a type or trait declares: a function, a constant, a variant, or a public field."""
+    """The item that a line in the block of a type or trait declares: a function, a constant, a variant, or a public
+    field."""
     if found := re.match(rf"    {VISIBLE}(?:const )?(?:fn|const|type) (\w+)", line):
         return found[1]
     if kind == "enum" and (found := re.match(r"    ([A-Z]\w*)\b", line)):

@@ -1,4 +1,5 @@
-"""What can be counted or compared in the repository, for docs/check_names: the numbers, the map and the configurations with all keys."""
+"""What can be counted or compared in the repository, for docs/check_names: the numbers, the map and the configurations
+with all keys."""
 from __future__ import annotations
 
 import ast
@@ -28,7 +29,8 @@ class Group(NamedTuple):
 
 
 MAP = "docs/ARCHITECTURE.md"
-# Where a stroke of a picture goes on: so many rows down, and columns to the right. One to the side goes on to the right.
+# Where a stroke of a picture goes on: so many rows down, and columns to the right. One to the side goes on to the
+# right.
 STEPS = {"|": (1, 0), "/": (1, -1), "\\": (1, 1)}
 TREE_OF = "## The path of a datagram"
 ALL_KEYS = "A key that isn't named here is ignored"
@@ -65,13 +67,15 @@ def form_lines() -> int:
 
 def counted() -> dict[str, int]:
     """What there is of each thing of which a text may tell the number."""
-    rows = [row for path in TOP.glob("rows/*.rows") for row in re.split(r"^== ", path.read_text(), flags=re.MULTILINE)[1:]]
+    rows = [row for path in TOP.glob("rows/*.rows")
+            for row in re.split(r"^== ", path.read_text(), flags=re.MULTILINE)[1:]]
     refused = sum("\n  ! config fault" in row for row in rows)
     checks = (TOP / "bench" / "checks").read_text()
     return {
         "rows": len(rows), "configurations": refused, "scripts": len(rows) - refused,
         "examples": len([*TOP.glob("examples/*.script"), *TOP.glob("examples/*/*.script")]),
-        "forms": form_lines(), "checks": len(re.findall(r'^check "', checks, re.MULTILINE)), "crates": len(crate_lines()),
+        "forms": form_lines(), "checks": len(re.findall(r'^check "', checks, re.MULTILINE)),
+        "crates": len(crate_lines()),
         "edits": len(list(TOP.glob("crates/*/must-fail/*.edit"))),
         "tests": sum(path.read_text().count("#[test]") for path in TOP.glob("crates/*/src/**/*.rt")),
     }
@@ -131,7 +135,8 @@ def drawn(lines: list[str], groups: list[Group]) -> Iterator[tuple[Group, Group]
 
 
 def picture_looks(lines: list[str]) -> Iterator[Look]:
-    """The crates of the map's picture: whom one stands on is below it, or behind it in its group; who is joined stands on the other."""
+    """The crates of the map's picture: whom one stands on is below it, or behind it in its group; who is joined stands
+    on the other."""
     numbered = block(lines, lines[0])
     picture, first = [line for _, line in numbered], numbered[0][0]
     groups, stands = groups_of(picture), crate_lines()
@@ -151,7 +156,8 @@ def bodies(crate: str, file: str, name: str) -> str:
     """The text of the functions of that name in a source file."""
     path = TOP / "crates" / crate / "src" / f"{file}.rt"
     text = path.read_text() if path.exists() else ""
-    return "\n".join(found[0] for found in re.finditer(rf"^( *)[^/\n]*\bfn {name}\b.*?\n\1}}", text, re.MULTILINE | re.DOTALL))
+    functions = re.finditer(rf"^( *)[^/\n]*\bfn {name}\b.*?\n\1}}", text, re.MULTILINE | re.DOTALL)
+    return "\n".join(found[0] for found in functions)
 
 
 def tree_looks(lines: list[str]) -> Iterator[Look]:

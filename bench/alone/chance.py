@@ -1,7 +1,12 @@
 """Events by chance, each over what the slots by themselves have come to."""
+from __future__ import annotations
+
+from collections.abc import Sequence
+
 from .arrivals import Arrivals
+from .beside import Beside
 from .calls import Calls
-from .draws import words
+from .draws import Draws, words
 from .rules import LAST_MOMENT
 
 LONGEST = 2**32
@@ -10,12 +15,12 @@ LONGEST = 2**32
 class Chance:
     """Lines by chance, for slots by themselves; the last part of them is about the last moment."""
 
-    def __init__(self, draws, beside, events):
+    def __init__(self, draws: Draws, beside: Beside, events: int) -> None:
         self.draws, self.beside = draws, beside
         self.calls, self.arrivals = Calls(draws, beside), Arrivals(draws, beside)
         self.left, self.late = events, events // 12
 
-    def line(self):
+    def line(self) -> str:
         """The next line."""
         self.left -= 1
         if self.left == self.late:
@@ -29,7 +34,7 @@ class Chance:
             return self.calls.line()
         return self.other()
 
-    def other(self):
+    def other(self) -> str:
         """What the node's surroundings do."""
         draws = self.draws
         share = draws.random.randrange(20)
@@ -39,19 +44,19 @@ class Chance:
             return words("role", draws.of(0, 1, 1, 2, 2, 255), draws.of("leader", "leader", "follower"))
         return words("addslot", *(draws.of(0, 1, 2, 3, 5) for _ in range(6)))
 
-    def counts(self):
+    def counts(self) -> Sequence[int]:
         """Counts of the train: none, any, or those at which a caller's request isn't sent again."""
         topos = [it.topo for slot in self.beside.slots for it in slot.of("caller") if any(it.topo)]
         if topos and self.draws.one_in(2):
             return [count and 15 - count for count in self.draws.of(*topos)]
         return self.draws.counts() if self.draws.one_in(2) else (0, 0)
 
-    def next_due(self):
+    def next_due(self) -> int | None:
         """When the first object of some slot is due; None where none is."""
         slot = self.draws.random.choice(self.beside.slots)
         return min((it.due for it in slot.objects.values() if it.due is not None), default=None)
 
-    def moment(self):
+    def moment(self) -> str:
         draws, now = self.draws, self.beside.now
         if draws.one_in(40):
             return words("moment", draws.of(0, max(now - 1, 0), LAST_MOMENT + 1, 2**64 - 1))

@@ -1,4 +1,8 @@
 """What a run by chance has to come to: each kind of line, and what happens without one."""
+from __future__ import annotations
+
+
+from .lines import Event
 
 SENDS = "Pd Pp Pr Mn Mr Mp Mq Mc Me"
 REFUSED = {
@@ -29,7 +33,8 @@ TOLD = "opened silent alive notified asked overrun confirmed"
 
 # What the slots note; each came without a line of its own.
 NOTED = """
-pd Short, pd TooLong, pd Fcs, pd Version, pd Kind, pd Length, md Short, md TooLong, md Fcs, md Version, md Kind, md Length
+pd Short, pd TooLong, pd Fcs, pd Version, pd Kind, pd Length
+md Short, md TooLong, md Fcs, md Version, md Kind, md Length
 came Pd, came Pp, came Pr, came Pe, came Mn, came Mr, came Mp, came Mq, came Mc, came Me, counts of another train
 Pd sent, Pd no value, Pd not led, Pd other counts, Pp sent, Pp no value, Pp not led, Pp other counts
 cycle on time, cycles missed, publisher: other counts
@@ -43,7 +48,7 @@ confirmed from its port, confirmed from another port
 """
 
 
-def name_of(event, line):
+def name_of(event: Event, line: str) -> str:
     """What kind of line an event gave."""
     slot, *parts = line.split(" ")
     if slot == "fault":
@@ -61,11 +66,11 @@ def name_of(event, line):
     return parts[0]
 
 
-def each(before, words):
+def each(before: str, words: str) -> list[str]:
     return [f"{before} {word}" for word in words.split()]
 
 
-def wanted():
+def wanted() -> list[str]:
     """All that has to come."""
     names = each("handle", MAKERS) + each("done", DOERS) + each("value", "Never Valid Silent") + TOLD.split()
     names += [f"refused {refusal} {word}" for word, refusals in REFUSED.items() for refusal in refusals.split()]

@@ -1,6 +1,13 @@
 """Numbers, words and values by chance, of few different ones, so that they meet, and of all bounds."""
-from .settings import WIDTHS
-from .texts import hex_text, ip_text, session_text
+from __future__ import annotations
+
+from random import Random
+from typing import TypeVar
+
+from .settings import WIDTHS, Datasets
+from .texts import Pair, hex_text, ip_text, session_text
+
+Item = TypeVar("Item")
 
 OWN = 0x0A000001
 ADDRESSES = range(OWN, OWN + 5)
@@ -35,80 +42,80 @@ TYPED = (1001, 1001, 1002, 1003, 1004, 1005)
 class Draws:
     """What is drawn from one generator."""
 
-    def __init__(self, random):
+    def __init__(self, random: Random) -> None:
         self.random = random
 
-    def one_in(self, count):
+    def one_in(self, count: int) -> bool:
         return self.random.randrange(count) == 0
 
-    def of(self, *items):
+    def of(self, *items: Item) -> Item:
         return self.random.choice(items)
 
-    def com_id(self):
+    def com_id(self) -> int:
         return self.random.choice((0, 2**32 - 1)) if self.one_in(50) else 100 + self.random.randrange(3)
 
-    def address(self):
+    def address(self) -> int:
         return self.random.choice(ADDRESSES)
 
-    def place(self):
+    def place(self) -> Pair:
         return self.address(), self.random.choice(PORTS)
 
-    def peer(self):
+    def peer(self) -> Pair:
         """One of more places than a caller takes answers of."""
         return self.address(), 5000 + self.random.randrange(3)
 
-    def counts(self):
+    def counts(self) -> Pair:
         return self.random.choice(COUNTS), self.random.choice(COUNTS)
 
-    def uri(self):
+    def uri(self) -> bytes:
         return self.random.choice(URIS)
 
-    def session(self):
+    def session(self) -> int:
         return self.random.getrandbits(128) if self.one_in(20) else self.random.randrange(6)
 
-    def session_word(self, session):
+    def session_word(self, session: int) -> str:
         """One of the forms of a session."""
         text = session_text(session)
         if self.one_in(10):
             text = self.of(text.upper(), text.replace("-", ""), "urn:uuid:" + text, "{" + text + "}")
         return text
 
-    def span(self):
+    def span(self) -> int:
         """A time that something may last, in microseconds."""
         return self.random.choice(BOUNDS) if self.one_in(8) else 1000 * self.random.randrange(2, 60)
 
-    def span_or_none(self):
+    def span_or_none(self) -> int:
         return 0 if self.one_in(3) else self.span()
 
-    def status(self):
+    def status(self) -> int:
         return self.of(-5, -1, 2**31 - 1, -(2**31)) if self.one_in(6) else self.random.randrange(4)
 
-    def error(self):
+    def error(self) -> int:
         return self.of(0, 1, 7) if self.one_in(8) else self.of(-1, -5, -(2**31))
 
-    def data(self, most=9):
+    def data(self, most: int = 9) -> bytes:
         return self.random.randbytes(self.random.randrange(most))
 
-    def long(self, limit, times=50):
+    def long(self, limit: int, times: int = 50) -> bytes:
         """Bytes about the limit, once in so many times, and else few."""
         return bytes(limit + self.of(-1, 0, 1, 1, 1)) if self.one_in(times) else self.data()
 
-    def dataset(self):
+    def dataset(self) -> int:
         if self.one_in(12):
             return self.of(1006, 1006, 5, 2**32 - 1)
         return 0 if self.one_in(2) else self.random.choice(TYPED)
 
-    def bounds(self):
+    def bounds(self) -> Pair:
         """The ends of a source range: any address, or some; seldom the wrong way round."""
         if self.one_in(2):
             return 0, 0
         low, high = sorted((self.address(), self.address()))
         return (high, low) if self.one_in(8) else (low, high)
 
-    def destination(self):
+    def destination(self) -> int:
         return self.of(OWN, OWN, OWN + 1) if self.one_in(3) else 0
 
-    def value(self, datasets, dataset):
+    def value(self, datasets: Datasets, dataset: int) -> bytes:
         """Bytes of a dataset; of dataset 0 any."""
         if dataset == 0:
             return self.long(1432)
@@ -122,7 +129,7 @@ class Draws:
                 data += b"".join(self.value(datasets, kind) for _ in range(size or count))
         return data
 
-    def near_value(self, datasets, dataset):
+    def near_value(self, datasets: Datasets, dataset: int) -> bytes:
         """A value of the dataset, or seldom such bytes and one more, or one less, or others."""
         value = self.value(datasets, dataset)
         if self.one_in(10):
@@ -130,7 +137,7 @@ class Draws:
         return value
 
 
-def config_by_chance(draws):
+def config_by_chance(draws: Draws) -> str:
     """A configuration of some slots, which run short of each kind of object."""
     ports = "" if draws.one_in(2) else "pd_port = 20548\nmd_port = 20550\n"
     text = f'[node]\naddress = "{ip_text(OWN)}"\n{ports}'
@@ -141,6 +148,6 @@ def config_by_chance(draws):
     return text + DATASETS
 
 
-def words(*items):
+def words(*items: object) -> str:
     """A line of these words: bytes as hexadecimal digits, all others as they are."""
     return " ".join(hex_text(it) if isinstance(it, bytes) else str(it) for it in items)

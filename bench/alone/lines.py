@@ -1,19 +1,24 @@
 """Lines of a script: the event of each, or its fault."""
+from __future__ import annotations
+
+from collections.abc import Callable
 from functools import partial
-from typing import NamedTuple
+from typing import Any, NamedTuple
 
 from .texts import BadWord, read_hex, read_ip, read_number, read_place, read_session, read_status, read_uri
 
 LINE_MAX = 140_000
+# What reads a word.
+Reader = Callable[[str], Any]
 
 U8, U16, U32, U64 = (partial(read_number, most=2**bits - 1) for bits in (8, 16, 32, 64))
 QUOTA = partial(read_number, most=256)
 
 
-def one_of(**words):
+def one_of(**words: bool) -> Callable[[str], bool]:
     """The reader of a word that is one of these."""
 
-    def reader(word):
+    def reader(word: str) -> bool:
         if word not in words:
             raise BadWord(word)
         return words[word]
@@ -21,12 +26,12 @@ def one_of(**words):
     return reader
 
 
-def com_or_any(word):
+def com_or_any(word: str) -> int | None:
     """A comId, or None for every one."""
     return None if word == "any" else U32(word)
 
 
-EVENTS = {
+EVENTS: dict[str, tuple[Reader, ...]] = {
     "moment": (U64,),
     "topology": (U32, U32),
     "role": (U8, one_of(leader=True, follower=False)),
@@ -34,7 +39,7 @@ EVENTS = {
     "pd": (read_place, read_place, read_hex),
     "md": (read_place, read_place, read_hex),
 }
-CALLS = {
+CALLS: dict[str, tuple[Reader, ...]] = {
     "publish": (U32, U32, U32, U8, U32, U32, read_place),
     "put": (U32, read_hex),
     "unpublish": (U32,),
@@ -65,19 +70,20 @@ class Event(NamedTuple):
     """What a line says: its first word, or that of a call, what stands behind it, and the call's slot."""
 
     word: str
-    values: tuple
+    values: tuple[Any, ...]
     slot: int | None = None
 
 
-def read_line(line):
+def read_line(line: str) -> Event | None:
     """The event of a line without its end; None of one that is skipped. Raises LineFault."""
     if len(line) > LINE_MAX:
         raise LineFault("TooLong")
     if not line or line.startswith("#"):
         return None
+    readers: tuple[Reader, ...] | None
     first, *words = line.split(" ")
     if first == "call":
-        name, words = (words[1] if len(words) > 1 else None), words[:1] + words[2:]
+        name, words = (words[1] if len(words) > 1 else ""), words[:1] + words[2:]
         readers = (U16, *CALLS[name]) if name in CALLS else None
     else:
         name, readers = first, EVENTS.get(first)

@@ -37,8 +37,8 @@ import time
 from collections.abc import Callable
 
 sys.path.insert(0, str(pathlib.Path(__file__).resolve().parents[2] / "clients/python"))
-import trdp_words
-from trdp_slot import DATAGRAM_MOST, Slot
+import trdp_words  # noqa: E402
+from trdp_slot import DATAGRAM_MOST, Slot  # noqa: E402
 
 LINE_MOST = 140_000
 """The most bytes of a line over a control socket, with its end."""

@@ -1,7 +1,7 @@
 """A network between two nodes that loses, doubles and holds back datagrams.
 
-It stands for each node at an address of its own: what comes in at the address of the one goes on to the other, or doesn't, and comes
-from the address that stands for its sender. So neither node knows of it.
+It stands for each node at an address of its own: what comes in at the address of the one goes on to the other, or
+doesn't, and comes from the address that stands for its sender. So neither node knows of it.
 """
 import heapq
 import random

@@ -9,9 +9,9 @@ import pathlib
 import sys
 
 sys.path.insert(0, str(pathlib.Path(__file__).resolve().parents[2] / "clients/python"))
-import train
-from train import DATASET, say
-from trdp_slot import Alive, Closed, Replied, Silent, Slot
+import train  # noqa: E402
+from train import DATASET, say  # noqa: E402
+from trdp_slot import Alive, Closed, Replied, Silent, Slot  # noqa: E402
 
 ASK_US = 1_000_000
 """How long it waits for answers. It doesn't know how many devices there are."""

@@ -9,9 +9,9 @@ import pathlib
 import sys
 
 sys.path.insert(0, str(pathlib.Path(__file__).resolve().parents[2] / "clients/python"))
-import train
-from train import DATASET, say
-from trdp_slot import Alive, Asked, Silent, Slot, Value
+import train  # noqa: E402
+from train import DATASET, say  # noqa: E402
+from trdp_slot import Alive, Asked, Silent, Slot, Value  # noqa: E402
 
 LOOK_US = 20_000
 """How long it rests between two looks: a tenth of the cycle, so that it sees each telegram."""

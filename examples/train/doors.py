@@ -13,9 +13,9 @@ import pathlib
 import sys
 
 sys.path.insert(0, str(pathlib.Path(__file__).resolve().parents[2] / "clients/python"))
-import train
-from train import CYCLE_US, DATASET, say
-from trdp_slot import Alive, Asked, Handle, Operator, Silent, Slot
+import train  # noqa: E402
+from train import CYCLE_US, DATASET, say  # noqa: E402
+from trdp_slot import Alive, Asked, Handle, Operator, Silent, Slot  # noqa: E402
 
 
 class Doors:

@@ -36,8 +36,8 @@ from typing import NoReturn
 HERE = pathlib.Path(__file__).resolve().parent
 TOP = HERE.parent.parent
 sys.path.insert(0, str(TOP / "clients/python"))
-import train
-from trdp_slot import Nobody, Operator, SlotError, Totals
+import train  # noqa: E402
+from trdp_slot import Nobody, Operator, SlotError, Totals  # noqa: E402
 
 # Processes in it end with the first one of them, and that one with unshare.
 NAMESPACES = ["unshare", "--user", "--map-root-user", "--net", "--pid", "--fork", "--kill-child"]
@@ -119,7 +119,8 @@ def run(words: list[str], namespace: int | None = None, is_inside: bool = True, 
     keeps = [] if namespace is None else [namespace]
     before = inside(namespace) if namespace is not None and is_inside else []
     try:
-        ran = subprocess.run([*before, *words], pass_fds=keeps, input=said, capture_output=True, text=True, timeout=WAIT)
+        ran = subprocess.run([*before, *words], pass_fds=keeps, input=said, capture_output=True, text=True,
+                             timeout=WAIT)
     except subprocess.TimeoutExpired:
         raise Refuses(f"{' '.join(words)}: it hangs") from None
     if ran.returncode:
