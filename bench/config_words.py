@@ -160,6 +160,13 @@ WORDS = [
     (NODE.replace("10.0.0.1", "0.0.0.0") + ONE,
      MEANT.replace("10.0.0.1", "0.0.0.0")
      + "warning: address is 0.0.0.0: its ports are at every interface, and a telegram counts as sent to 0.0.0.0\n"),
+    # Beside every interface the system refuses the ports of a group.
+    (NODE.replace("10.0.0.1", "0.0.0.0") + 'groups = ["239.192.0.1"]\n' + ONE,
+     MEANT.replace("10.0.0.1", "0.0.0.0").replace(
+         "\nslot", "\ngroup 239.192.0.1: a link joins it by `ip address add 239.192.0.1/32 dev LINK autojoin`\nslot")
+     + "warning: address is 0.0.0.0: its ports are at every interface, and a telegram counts as sent to 0.0.0.0\n"
+     "warning: pd_port and groups[0] both name port 17224 at 239.192.0.1\n"
+     "warning: md_port and groups[0] both name port 17225 at 239.192.0.1\n"),
     (NODE.replace("10.0.0.1", "239.1.2.3") + ONE,
      MEANT.replace("10.0.0.1", "239.1.2.3") + "warning: address is the group 239.1.2.3: " + GROUP),
     (NODE.replace("10.0.0.1", "255.255.255.255") + ONE,
