@@ -92,7 +92,7 @@ ip_no_colon ip =
     (number (ip.0 / 2 ^ 8 % 256) (omega arith))) dot_no_colon)
     (number (ip.0 % 256) (omega arith))
 
--- a text has one part before its first colon, and one behind it
+-- a text has one part before its first colon, and one after it
 pub parts_alone : (front back head tail : List ℕ) → All NoColon front
     → All NoColon head → front ++ 58 ∷ back ≡ head ++ 58 ∷ tail → (front ≡ head) × (back ≡ tail)
 parts_alone [] back [] tail p q e = (refl, ap (drop 1) e)

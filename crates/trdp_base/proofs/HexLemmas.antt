@@ -1,4 +1,4 @@
--- Bytes and the pairs of digits that they are written as stand for one another.
+-- Bytes and the pairs of digits that they are written as determine one another.
 -- For `read_hex_into`, `push_hex` and `read_uri`, and for the loops over digits and pairs.
 -- By induction on the bytes: a byte has two digits, and two digits are one byte's.
 use Rattle.std.proofs.Common.{◌≡◌, ℕ, ◌+◌, ◌-◌, ◌*◌, ◌/◌, ◌%◌, ◌<◌, List, []}

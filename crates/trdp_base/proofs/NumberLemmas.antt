@@ -112,7 +112,7 @@ pub written_digit : (number digit : ℕ) → number < 10 → digit ≡ 48 + numb
 written_digit number digit one is =
     decimal_digit number one ∙ ap (λ d. d ∷ []) (omega (arith, is))
 
--- the last digit stands behind the written form of what is before it
+-- the last digit follows the written form of what is before it
 pub written_last : (number digit : ℕ) → 10 ≤ number → number < 2 ^ 64 → digit ≡ 48 + number % 10
     → text_of_number number ≡ text_of_number (number / 10) ++ digit ∷ []
 written_last number digit more small is =

@@ -1,6 +1,6 @@
 -- A written status is a number, with a sign before it where it is below 0.
 -- For `push_status` and `read_negative`.
--- By: no digit is a sign, and what stands behind one is the number's magnitude.
+-- By: no digit is a sign, and what follows one is the number's magnitude.
 use Rattle.std.proofs.Common.{rules, to_z, of_z, ◌-ℤ◌, ◌≡◌, ℕ, ℤ, pos, negsuc, suc, ◌<◌}
 use Rattle.std.proofs.Common.{◌≤◌, ◌^◌, List, ◌∷◌, length, get_or, drop, refl, ap, arith}
 use Rattle.std.specs.Prelude.{FitsSigned}

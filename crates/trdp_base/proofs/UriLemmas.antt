@@ -1,4 +1,4 @@
--- A URI is what stands before the first zero byte of its field.
+-- A URI is what comes before the first zero byte of its field.
 -- For `Uri::new`, `from_field`, `bytes` and `front`, and for `read_uri`.
 -- By induction on the bytes: none of a URI's is zero, and only zeros fill up its field.
 use Rattle.std.proofs.Common.{◌≡◌, ◌≢◌, ℕ, zero, suc, ◌-◌, ◌<◌, ◌≤◌, List, []}
@@ -17,7 +17,7 @@ use Rattle.trdp_base.proofs.HexLemmas.{IsByte, length-hex_pairs, read_alone}
 abbrev pub NoZero : ℕ → Type 0
 NoZero byte = byte ≢ 0
 
--- of a zero byte and more, nothing stands before it; another byte does
+-- where the first byte is zero nothing comes before it; another first byte does
 begins_zero : (byte : ℕ) (bytes : List ℕ) → byte ≡ 0 → before_zero (byte ∷ bytes) ≡ []
 begins_zero byte bytes none = rw none refl
 
@@ -25,7 +25,7 @@ pub goes_on : (byte : ℕ) (bytes : List ℕ) → 0 < byte
     → before_zero (byte ∷ bytes) ≡ byte ∷ before_zero bytes
 goes_on byte bytes above = grind (arith, nat_tests)
 
--- no more stand before the first zero byte than there are
+-- no more bytes come before the first zero byte than there are
 pub length-before_zero : (bytes : List ℕ) → length (before_zero bytes) ≤ length bytes
 length-before_zero [] = omega arith
 length-before_zero (byte ∷ bytes) =
@@ -49,7 +49,7 @@ above_zero : (byte : ℕ) → byte ≢ 0 → 0 < byte
 above_zero byte other =
     elim (cases_lt 0 byte) [ inl above ↦ above | inr below ↦ absurd (other (omega (arith, below))) ]
 
--- bytes stand before the zeros that follow them
+-- bytes come before the zeros that follow them
 pub before_zeros : (bytes : List ℕ) (count : ℕ)
     → All NoZero bytes → before_zero (bytes ++ replicate count 0) ≡ bytes
 before_zeros [] zero sound = refl
@@ -58,7 +58,7 @@ before_zeros (byte ∷ bytes) count sound =
     goes_on byte (bytes ++ replicate count 0) (above_zero byte (All-head NoZero byte bytes sound))
     ∙ ap (λ l. byte ∷ l) (before_zeros bytes count (All-tail NoZero byte bytes sound))
 
--- where none is zero, all stand before the first
+-- where none is zero, all come before the first
 pub before_none : (bytes : List ℕ) → All NoZero bytes → before_zero bytes ≡ bytes
 before_none [] sound = refl
 before_none (byte ∷ bytes) sound =
@@ -76,7 +76,7 @@ pub field_of_front : (uri : List ℕ) → length uri ≤ 32
 unfolding uri_field
 field_of_front uri within = ap (λ l. uri ++ l) (drop-replicate (length uri) 32 0)
 
--- the bytes up to the first zero byte stand before it
+-- the bytes up to the first zero byte come before it
 pub up_to_zero : (bytes : List ℕ) (end : ℕ) → ((k : ℕ) → k < end → get_or bytes k 0 ≢ 0)
     → get_or bytes end 0 ≡ 0 → take end bytes ≡ before_zero bytes
 up_to_zero [] zero sound last = refl

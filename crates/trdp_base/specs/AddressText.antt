@@ -5,6 +5,7 @@ use Rattle.trdp_base.specs.declared.place.Ip.{Ip}
 use Rattle.trdp_base.specs.declared.place.Place.{Place}
 
 -- the four numbers of an address from its highest byte on, joined by dots
+-- rule: text.address
 abbrev pub text_of_ip : Ip → List ℕ
 text_of_ip ip =
     text_of_number (ip.0 / 2 ^ 24 % 256) ++ codes "."
@@ -12,6 +13,7 @@ text_of_ip ip =
     ++ text_of_number (ip.0 / 2 ^ 8 % 256) ++ codes "." ++ text_of_number (ip.0 % 256)
 
 -- the address, a colon and the port
+-- rule: text.place
 abbrev pub text_of_place : Place → List ℕ
 text_of_place place = text_of_ip place.ip ++ codes ":" ++ text_of_number place.port
 

@@ -12,6 +12,7 @@ hex_pairs [] = []
 hex_pairs (byte ∷ bytes) = hex_digit (byte / 16) ∷ hex_digit (byte % 16) ∷ hex_pairs bytes
 
 -- the digits in pairs, or `-` for no bytes
+-- rule: text.hex
 abbrev pub text_of_hex : List ℕ → List ℕ
 text_of_hex [] = codes "-"
 text_of_hex (byte ∷ bytes) = hex_pairs (byte ∷ bytes)

@@ -2,6 +2,7 @@
 use Rattle.std.specs.Prelude.{ℕ}
 
 -- the most objects of one kind in a slot
+-- rule: slot.quota
 abbrev pub quota_limit : ℕ
 quota_limit = 256
 

@@ -4,6 +4,7 @@ use Rattle.std.specs.Int.{w128, to_be_bytes, from_be_bytes}
 use Rattle.uuid.specs.Text.{parsed, hyphenated_text, lower}
 
 -- the identifier that a text of one of the four forms reads as
+-- rule: text.session
 unfoldable pub session_of : List ℕ → Option ℕ
 session_of text = option_map (λ bytes. from_be_bytes w128 bytes) (parsed text)
 

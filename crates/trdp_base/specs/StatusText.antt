@@ -2,7 +2,8 @@
 use Rattle.std.specs.Prelude.{ℕ, ℤ, List}
 use Rattle.std.specs.Fmt.{signed_decimal}
 
--- the decimal digits without leading zeros, behind `-` for a number below 0
+-- the decimal digits without leading zeros, after `-` for a number below 0
+-- rule: text.status
 abbrev pub text_of_status : ℤ → List ℕ
 text_of_status status = signed_decimal status
 

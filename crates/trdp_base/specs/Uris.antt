@@ -1,4 +1,4 @@
--- The URIs of message data, and the fields that they stand in.
+-- The URIs of message data, and the fields that contain them.
 use Rattle.std.specs.Prelude.{◌≢◌, ℕ, ◌≡◌, ◌-◌, ◌<◌, ◌≤◌, ◌==◌, List, [], ◌∷◌}
 use Rattle.std.specs.Prelude.{◌++◌, length, replicate, if◌then◌else◌, All}
 use Rattle.trdp_base.specs.HexText.{text_of_hex}
@@ -22,6 +22,7 @@ unfoldable pub uri_field : List ℕ → List ℕ
 uri_field uri = uri ++ replicate (uri_limit - length uri) 0
 
 -- the text is the written form of a URI: its bytes as digits in pairs, or `-` for none
+-- rule: text.uri
 abbrev pub IsUriText : List ℕ → Type 0
 IsUriText text = (uri : List ℕ) × IsUri uri × All (λ byte. byte < 256) uri
     × (text ≡ text_of_hex uri)

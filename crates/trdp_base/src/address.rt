@@ -1,4 +1,4 @@
-//! Addresses and places as text: four numbers joined by dots, and a port behind a colon.
+//! Addresses and places as text: four numbers joined by dots, and a port after a colon.
 
 ghost use Rattle.std.specs.Prelude.{◌≡◌, ◌≢◌, ℕ, ◌+◌, ◌^◌, ◌<◌, ◌≤◌, ◌++◌, ◌∷◌, IfOk, IfErr, OnOk};
 ghost use Rattle.std.specs.Prelude.{OnErr, IsOk, IfSome, IfNone, All, vec_len, vec_capacity};
@@ -63,7 +63,7 @@ fn read_port(text: &[u8]) -> Result<u16, TextFault>
     Ok(port as u16)
 }
 
-/// The parts of a text before and behind its first colon.
+/// The parts of a text before and after its first colon.
 fn split_at_colon(text: &[u8]) -> Option<(&[u8], &[u8])>
     ensures parts { IfSome result (λ parts. text.now ≡ parts.0.now ++ 58 ∷ parts.1.now) }
     ensures first { IfSome result (λ parts. All (λ byte. byte ≢ 58) parts.0.now) }

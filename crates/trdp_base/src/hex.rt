@@ -13,7 +13,7 @@ use std::alloc::{AllocError, Global};
 /// Reads bytes: lower-case hexadecimal digits in pairs, or `-` for no bytes (profile).
 ///
 /// # Errors
-/// [`TextFault::BadText`] at any other text, the empty one too, before memory is taken.
+/// [`TextFault::BadText`] at any other text, the empty one too, before any allocation.
 /// [`TextFault::OutOfMemory`] where there is no memory for the bytes of a good text.
 pub fn read_hex(alloc: Global, text: &[u8]) -> Result<Vec<u8>, TextFault>
     ensures value { IfOk result (λ bytes. text.now ≡ text_of_hex bytes.items) }
@@ -69,7 +69,7 @@ pub(crate) fn is_in_pairs(text: &[u8]) -> bool
 
 /// Whether all characters are lower-case hexadecimal digits.
 ///
-/// It looks at each, also behind one that isn't: so LLVM takes sixteen at once, as it does where
+/// It looks at each, also after one that isn't: so LLVM compares sixteen at once, as it does where
 /// digits are read and written.
 fn are_digits(text: &[u8]) -> bool
     ensures { IsTrue result ↔ All IsHexDigit text.now }

@@ -1,17 +1,16 @@
-//! The small types of a TRDP node and their texts: addresses, places, topology counts, moments and
-//! quotas, and of message data the URIs, session identifiers and statuses.
+//! The small types of a TRDP node and their texts. Most crates of the node use them.
 //!
-//! A [`Place`] is an address with a port, a [`Moment`] a time of the node, [`Quotas`] how many
-//! objects of each kind a slot may have. Each `read_..` reads exactly the texts that the `push_..`
-//! beside it writes.
+//! An [`Ip`] is an IPv4 address, a [`Place`] an address with a UDP port, and [`Topo`] the two
+//! topology counters. A [`Moment`] is a time since the node began. [`Quotas`] say how many objects
+//! of each kind a slot may have. Message data has [`Uri`]s, [`SessionId`]s and statuses.
 //!
 //! ```text
 //! let place = read_place(b"10.0.0.2:17224")?;    // Place { ip: Ip(0x0a00_0002), port: 17224 }
 //! push_place(&mut text, place)?;                 // 10.0.0.2:17224
 //! ```
 //!
-//! What no contract can say is that memory is there where room is wanting: a printer that is always
-//! refused it meets its contract, and the tests show that it doesn't.
+//! Proved: each `read_..` accepts exactly the written forms of its values, with their value, and
+//! each `push_..` appends the written form or leaves the list. What is printed is read back.
 #![tactic(auto)]
 
 mod address;

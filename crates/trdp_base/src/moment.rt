@@ -26,7 +26,7 @@ impl Model for Moment {
 }
 
 impl Moment {
-    /// The moment of so many microseconds; None above [`MOMENT_MAX`].
+    /// The moment of that many microseconds; None above [`MOMENT_MAX`].
     pub fn new(microseconds: u64) -> Option<Self>
         ensures valid { IsSome result ↔ (microseconds ≤ last_moment) }
         ensures value { IfSome result (λ m. m ≡ microseconds) }

@@ -1,4 +1,4 @@
-//! Where a telegram comes from and goes to.
+//! The socket addresses that a telegram comes from and goes to.
 
 /// An IPv4 address.
 #[derive(Clone, Copy, Debug, PartialEq, Eq, PartialOrd, Ord)]
@@ -7,7 +7,7 @@ pub struct Ip(
     pub u32,
 );
 
-/// An address with a UDP port.
+/// A socket address: an IPv4 address with a UDP port.
 #[derive(Clone, Copy, Debug, PartialEq, Eq)]
 pub struct Place {
     /// The address.

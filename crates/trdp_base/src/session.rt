@@ -20,7 +20,7 @@ pub struct SessionId(
 );
 
 /// Reads a session identifier: 32 hexadecimal digits, also hyphenated, hyphenated in braces or
-/// behind `urn:uuid:`, small or capital (RFC 9562).
+/// after `urn:uuid:`, in lower or upper case (RFC 9562).
 ///
 /// # Errors
 /// [`TextFault::BadText`] at any other text.

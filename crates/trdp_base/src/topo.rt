@@ -1,10 +1,10 @@
-//! The two topology counts of a train's network.
+//! The two topology counters of a train's network.
 
-/// The topology counts of IEC 61375-2-3. A count of 0 stands for any.
+/// The topology counters of IEC 61375-2-3. A counter of 0 matches any.
 #[derive(Clone, Copy, Debug, PartialEq, Eq)]
 pub struct Topo {
-    /// etbTopoCnt, that of the train network's directory.
+    /// etbTopoCnt: the counter of the train network directory.
     pub etb: u32,
-    /// opTrnTopoCnt, that of the operational train directory.
+    /// opTrnTopoCnt: the counter of the operational train directory.
     pub op_trn: u32,
 }

@@ -1,4 +1,4 @@
-//! URIs: the texts that a message is from and to.
+//! URIs: the texts that say whom a message is from and for.
 
 ghost use Rattle.std.specs.Prelude.{◌≡◌, ◌≢◌, ℕ, ◌*◌, ◌<◌, ◌≤◌, ◌↔◌, List, [], ◌++◌, length};
 ghost use Rattle.std.specs.Prelude.{drop, Ok, All, IfOk, IfErr, IsSome, IfSome, IfNone, IsTrue};
@@ -17,7 +17,7 @@ pub const URI_LIMIT: usize = 32;
 /// (IEC 61375-2-3).
 #[derive(Clone, Copy, Debug)]
 pub struct Uri {
-    /// The bytes, and zeros behind them.
+    /// The bytes, and zeros after them.
     field: [u8; URI_LIMIT],
 }
 
@@ -95,7 +95,7 @@ impl Uri {
         front(&self.field)
     }
 
-    /// Its field in a header: its bytes, and zeros behind them up to [`URI_LIMIT`]
+    /// Its field in a header: its bytes, and zeros after them up to [`URI_LIMIT`]
     /// (IEC 61375-2-3).
     pub fn field(&self) -> &[u8]
         ensures value { result.now ≡ uri_field self.now }

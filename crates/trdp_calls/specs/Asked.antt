@@ -58,7 +58,7 @@ concerns_messages (ConfirmCall handle place status) = true
 concerns_messages (AbortCall handle) = true
 concerns_messages _ = false
 
--- the call makes an object, sends a message without one, or ends all
+-- the call makes an object, sends a message without one, or ends all objects
 abbrev pub concerns_no_object : CallModel → Bool
 concerns_no_object call = not (concerns_data call || answers_request call || concerns_messages call)
 

@@ -4,7 +4,7 @@ use Rattle.trdp_model.specs.declared.fault.Refusal.{Refusal}
 use Rattle.trdp_calls.specs.declared.value.SpellFault.{SpellFault}
 use Rattle.trdp_calls.specs.declared.value.SpellFault.TheVariants.{Refused, NoMemory}
 
--- a refused item is refused as expected; want of memory may come at any time
+-- a refused item is refused as expected; an allocation may fail at any time
 abbrev pub IsRefusedAs : Option Refusal → SpellFault → Type 0
 IsRefusedAs expected (Refused refusal) = expected ≡ Some refusal
 IsRefusedAs expected NoMemory = Unit {0}

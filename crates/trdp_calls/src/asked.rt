@@ -35,7 +35,8 @@ pub enum Asked<'a> {
         status: i32,
         payload: &'a [u8],
     },
-    /// To reply under that comId, with that status, and be confirmed within so many microseconds.
+    /// To reply by a query under that comId, with that status, which must be confirmed within
+    /// `timeout` microseconds.
     Query {
         com_id: u32,
         status: i32,
@@ -47,25 +48,25 @@ pub enum Asked<'a> {
         com_id: u32,
         status: i32,
     },
-    /// To confirm the query of that place, with that status.
+    /// To confirm the query from that `Place`, with that status.
     Confirm {
         place: Place,
         status: i32,
     },
-    /// To be given up, if it is a caller or a replier.
+    /// To be aborted, if it is a caller or a replier.
     Abort,
 }
 
-/// That something is asked of an object.
+/// The deed of a call: it asks something of an object.
 #[derive(Clone, Copy)]
 pub struct Asking<'a, 'b> {
     /// What is asked.
     pub asked: &'a Asked<'b>,
-    /// The datasets, the time and the topology counts.
+    /// The datasets, the time and the topology counters.
     pub setting: Setting<'a>,
 }
 
-/// Records whether an object ends: one of another kind refuses.
+/// Records the answer to a call that ends an object; for an object of another kind it is refused.
 fn end(object: &AnyObject, kind: Kind, s: u16, out: &mut Outbox) -> Left
     requires { HasRoom out.old answer_room }
     ensures left { left_of result object.now ≡ (ends kind object.now).left }
@@ -81,7 +82,7 @@ fn end(object: &AnyObject, kind: Kind, s: u16, out: &mut Outbox) -> Left
     }
 }
 
-/// Records whether an object is given up: one that is neither caller nor replier refuses.
+/// Records the answer to an Abort; for an object that is neither caller nor replier it is refused.
 fn abort(object: &AnyObject, s: u16, out: &mut Outbox) -> Left
     requires { HasRoom out.old answer_room }
     ensures left { left_of result object.now ≡ (aborts object.now).left }

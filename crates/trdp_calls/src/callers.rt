@@ -1,4 +1,4 @@
-//! Those that ask: how a request is sent, and how an answer is confirmed.
+//! Calls of callers: how a request is sent, and how a query is confirmed.
 
 ghost use Rattle.std.specs.Prelude.{◌≡◌, ◌<◌, ◌≤◌, ◌++◌, ◌∷◌, [], length, OnOk, OnErr, true};
 ghost use Rattle.std.specs.Prelude.{IfNone};
@@ -32,13 +32,13 @@ use trdp_store::{Counts, Left, Store, has_session};
 /// The shortest timeout of a request or query, in microseconds (profile).
 pub const TIMEOUT_MIN: u32 = 1_000;
 
-/// The most places that a request may expect answers from (profile).
+/// The most places (address and port) that a request may expect answers from (profile).
 const EXPECTED_MAX: u8 = 8;
 
 /// How often a request may be sent again at most (profile).
 const RETRIES_MAX: u8 = 2;
 
-/// Why slot `s` doesn't send a request.
+/// Why slot `s` doesn't send a request; None where it does.
 fn request_refusal(
     store: &Store,
     s: u16,
@@ -79,7 +79,8 @@ fn request_refusal(
 /// first, then memory is taken, and then the slot changes.
 ///
 /// # Errors
-/// Want of memory for the caller, which keeps its payload; nothing has changed.
+/// [`AllocError`] where there is no memory for the caller, which keeps its payload; nothing has
+/// changed.
 pub fn request(
     store: &mut Store,
     s: u16,
@@ -112,7 +113,7 @@ pub fn request(
     Ok(())
 }
 
-/// Why a caller doesn't confirm the query of that place.
+/// Why a caller doesn't confirm the query from that `Place`; None where it does.
 fn confirm_refusal(caller: &Caller, place: Place, status: i32) -> Option<Refusal>
     ensures { result ≡ confirm_refusal caller.now place status }
 {
@@ -125,7 +126,7 @@ fn confirm_refusal(caller: &Caller, place: Place, status: i32) -> Option<Refusal
     None
 }
 
-/// Lets a caller of that handle confirm the query of that place, and records what it gives.
+/// Lets a caller of that handle confirm the query from that `Place`, and adds its records.
 fn confirm_by(
     caller: &mut Caller,
     handle: u32,
@@ -161,7 +162,7 @@ fn confirm_by(
     }
 }
 
-/// Lets the object of that handle confirm the query of that place, and records what it gives.
+/// Lets the object of that handle confirm the query from that `Place`, and adds its records.
 pub fn confirm(
     object: &mut AnyObject,
     handle: u32,

@@ -1,4 +1,4 @@
-//! What a call does to the slot that makes it.
+//! What a call does to the slot that makes it, and its answer.
 
 ghost use Rattle.std.specs.Prelude.{◌≡◌, ◌<◌, ◌≤◌, length, OnOk, OnErr, IfOk, IfErr};
 ghost use Rattle.std.specs.Prelude.{None, true, false, IfSome, IfNone};
@@ -50,8 +50,8 @@ fn asked_of_data<'a>(call: &Call<'a>) -> Option<(u32, Asked<'a>)>
     }
 }
 
-/// Which object a call concerns that answers a request, by its handle, and what it asks of it; None
-/// where the call answers none.
+/// Which object a call that answers a request concerns, by its handle, and what it asks of it;
+/// None where the call answers none.
 fn asked_of_answer<'a>(call: &Call<'a>) -> Option<(u32, Asked<'a>)>
     ensures asks { IfSome result (λ of. IsAskedBy (call_model call.now) of.0 of.1) }
     ensures none { IfNone result (answers_request (call_model call.now) ≡ false) }
@@ -94,8 +94,8 @@ fn asked_of_answer<'a>(call: &Call<'a>) -> Option<(u32, Asked<'a>)>
     }
 }
 
-/// Which object of message data a call concerns that answers no request, by its handle, and what it
-/// asks of it; None where it concerns none.
+/// Which object of message data a call that answers no request concerns, by its handle, and what
+/// it asks of it; None where it concerns none.
 fn asked_of_messages<'a>(call: &Call<'a>) -> Option<(u32, Asked<'a>)>
     ensures asks { IfSome result (λ of. IsAskedBy (call_model call.now) of.0 of.1) }
     ensures none { IfNone result (concerns_messages (call_model call.now) ≡ false) }
@@ -112,8 +112,8 @@ fn asked_of_messages<'a>(call: &Call<'a>) -> Option<(u32, Asked<'a>)>
     }
 }
 
-/// Which object a call concerns, by its handle, and what it asks of it; None where it concerns none
-/// that there is.
+/// Which object a call concerns, by its handle, and what it asks of it; None where it concerns no
+/// single object.
 fn asked_of<'a>(call: &Call<'a>) -> Option<(u32, Asked<'a>)>
     ensures asks { IfSome result (λ of. IsAskedBy (call_model call.now) of.0 of.1) }
     ensures none { IfNone result (concerns_no_object (call_model call.now) ≡ true) }
@@ -130,7 +130,7 @@ fn asked_of<'a>(call: &Call<'a>) -> Option<(u32, Asked<'a>)>
 /// Serves a call of slot `s` that concerns no single object, and records its answer.
 ///
 /// # Errors
-/// Want of memory for a new object; nothing has changed.
+/// [`AllocError`] where there is no memory for a new object; nothing has changed.
 fn serve_slot(
     store: &mut Store,
     s: u16,
@@ -177,8 +177,8 @@ fn serve_slot(
     Ok(())
 }
 
-/// Has the object of that handle in slot `s` do what is asked, and records what it gives; where
-/// there is none, the call is refused.
+/// Has the object of that handle in slot `s` do what is asked, and adds its records; where there
+/// is none, the call is refused.
 fn ask(store: &mut Store, s: u16, handle: u32, asking: &Asking<'_, '_>, out: &mut Outbox)
     requires slot { s < length store.old }
     requires now { asking.now.setting.globals.now.now ≤ last_moment }
@@ -201,7 +201,7 @@ fn ask(store: &mut Store, s: u16, handle: u32, asking: &Asking<'_, '_>, out: &mu
 /// Serves a call of slot `s` and records its answer. A refused call changes nothing.
 ///
 /// # Errors
-/// Want of memory for the answer or a new object; nothing has changed.
+/// [`AllocError`] where there is no memory for the answer or a new object; nothing has changed.
 pub fn serve(
     store: &mut Store,
     s: u16,
@@ -263,11 +263,12 @@ fn spelled(
     }
 }
 
-/// Puts an item in the publisher of that handle in slot `s` and records the answer; an item
-/// without bytes there is refused.
+/// Puts an item in the publisher of that handle in slot `s` and records the answer; an item that
+/// has no bytes as a value of the publisher's dataset is refused.
 ///
 /// # Errors
-/// Want of memory for the item's bytes or the answer; nothing has changed.
+/// [`AllocError`] where there is no memory for the item's bytes or the answer; nothing has
+/// changed.
 pub fn put_value(
     store: &mut Store,
     s: u16,

@@ -1,18 +1,16 @@
 //! The calls of a slot: what each does to the slot that makes it, and to no other.
 //!
-//! [`serve`] takes a call and records its answer: it makes an object, it asks something of one, or
-//! it concerns none. Every refusal is found before memory is taken, and all memory is taken before
-//! the first change. [`put_value`] puts a value that is handed over as an item; what a
-//! subscription shows is found by [`subscription_at`], and is an item by [`item_shown`].
+//! [`serve`] takes a call and records its answer. A call makes an object, asks something of one,
+//! or concerns none. Every refusal is found before memory is taken, and all memory is taken before
+//! the first change. [`put_value`] puts a value that the caller passes as an item.
+//! [`subscription_at`] finds what a subscription shows, and [`item_shown`] makes it an item.
 //!
 //! ```text
-//! serve(&mut store, slot, &call, &setting, &mut out)?;    // the answer is the last of the records
+//! serve(&mut store, slot, &call, &setting, &mut out)?;    // the answer, then what it sends
 //! ```
 //!
-//! The rules are those of `trdp_model`. What no contract can say is that memory is there: a
-//! `serve`, a `put_value` or an `item_shown` that is refused it wherever it may be meets its
-//! contract, and the worked examples (`trdp_node_tests`) show that with ample memory each does its
-//! work.
+//! The rules are those of `trdp_model`. `trdp_engine` serves the calls of a node with these
+//! functions.
 #![tactic(auto)]
 
 mod asked;

@@ -13,7 +13,7 @@ use trdp_md::{NotifyTerms, notification};
 use trdp_model::Refusal;
 use trdp_outbox::{Outbox, PlainAnswer};
 
-/// Why a notification isn't sent.
+/// Why a notification isn't sent; None where it is.
 fn notify_refusal(terms: &NotifyTerms, payload: &[u8], globals: &Globals) -> Option<Refusal>
     ensures { result ≡ notify_refusal globals.entry.now terms.now payload.now }
 {
@@ -26,7 +26,7 @@ fn notify_refusal(terms: &NotifyTerms, payload: &[u8], globals: &Globals) -> Opt
     None
 }
 
-/// Records the answer of slot `s` to a call Notify, and the notification.
+/// Records the answer of slot `s` to a call Notify, and the notification where it is sent.
 pub fn notify(terms: &NotifyTerms, payload: &[u8], globals: &Globals, s: u16, out: &mut Outbox)
     requires { HasRoom out.old (message_room (length payload.now)) }
     ensures { (slot : SlotState) → out.new.records

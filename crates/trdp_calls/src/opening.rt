@@ -24,7 +24,7 @@ use trdp_store::{Counts, Store};
 /// The shortest cycle or supervision time but 0, in microseconds (profile).
 const SPAN_MIN: u32 = 1_000;
 
-/// Why slot `s` takes no new object of the kind.
+/// Why slot `s` takes no new object of the kind; None where it takes one.
 pub fn opening_refusal(store: &Store, s: u16, kind: Kind) -> Option<Refusal>
     requires { s < length store.now }
     ensures { result ≡ opening_refusal (slot_at s store.now) kind }
@@ -35,8 +35,8 @@ pub fn opening_refusal(store: &Store, s: u16, kind: Kind) -> Option<Refusal>
     }
 }
 
-/// Adds an object to slot `s`, of which none is in its session in its role, and answers its handle,
-/// or says why not. It counts how often two orders were compared.
+/// Adds an object to slot `s`, which has none in the same session and role, and returns the
+/// answer: its handle, or why not. It counts how often two orders were compared.
 pub fn open(store: &mut Store, s: u16, object: AnyObject, counts: &mut Counts) -> PlainAnswer
     requires slot { s < length store.old }
     requires fresh { IsNewInSession object (slot_at s store.old).objects }
@@ -66,7 +66,8 @@ pub fn is_span(span: u32) -> bool
 /// How many bytes the zero value of a dataset takes.
 ///
 /// # Errors
-/// Why no object can be of it: the first that applies of `NoDataset` and `TooLong` (above 1,432).
+/// Why no object can be of it: the first that applies of `NoDataset` and `TooLong` (above 1,432
+/// bytes).
 pub fn value_size(config: &NodeConfig, dataset: u32) -> Result<usize, Refusal>
     ensures refused { IfErr result (λ refusal. (later : Option Refusal)
         → dataset_refusal (setup_of config.now) dataset later ≡ Some refusal) }

@@ -25,7 +25,7 @@ use trdp_outbox::PlainAnswer;
 use trdp_pd::{Publisher, PublisherTerms};
 use trdp_store::{Counts, Store};
 
-/// Why slot `s` refuses a publisher of these terms.
+/// Why slot `s` refuses a publisher of these terms; None where it doesn't.
 fn publish_refusal(
     store: &Store,
     s: u16,
@@ -48,7 +48,7 @@ fn publish_refusal(
 /// slot changes.
 ///
 /// # Errors
-/// Want of memory for the publisher.
+/// [`AllocError`] where there is no memory for the publisher.
 pub fn publish(
     store: &mut Store,
     s: u16,
@@ -79,7 +79,7 @@ pub fn publish(
     ))
 }
 
-/// Gives the object a new value, or says why not.
+/// Gives the object a new value, or records why not.
 pub fn put(object: &mut AnyObject, config: &NodeConfig, bytes: &[u8]) -> PlainAnswer
     ensures answers { puts (setup_of config.now) bytes.now object.old
         ≡ answers object.new (plain_answer_model result) }

@@ -1,4 +1,4 @@
-//! Calls of those that were asked: replies, queries and errors.
+//! Calls of repliers: replies, queries and errors.
 
 ghost use Rattle.std.specs.Prelude.{◌≡◌, ◌≤◌, ◌++◌, ◌∷◌, [], Some, length};
 ghost use Rattle.trdp_base.specs.Moments.{last_moment};
@@ -22,20 +22,20 @@ use trdp_model::{AnyObject, Refusal};
 use trdp_outbox::{Outbox, PlainAnswer};
 use trdp_store::Left;
 
-/// A query as a call asks for it; one that can't be sent is refused.
+/// A query as a call describes it; one that can't be sent is refused.
 #[derive(Clone, Copy)]
 pub struct Inquiry<'a> {
-    /// The comId that it goes under.
+    /// The comId of its telegram.
     pub com_id: u32,
-    /// Its status; none below 0 is sent.
+    /// Its status; a query with a negative one is refused.
     pub status: i32,
-    /// Within how many microseconds it is to be confirmed; none below 1,000 is sent.
+    /// Within how many microseconds it must be confirmed; none below 1,000 is sent.
     pub timeout: u32,
     /// What it carries; no more than 65,388 bytes are sent.
     pub payload: &'a [u8],
 }
 
-/// Why a replier doesn't reply.
+/// Why a replier doesn't reply; None where it does.
 fn reply_refusal(replier: &Replier, status: i32, payload: &[u8]) -> Option<Refusal>
     ensures { result ≡ reply_refusal replier.now status payload.now }
 {
@@ -51,7 +51,7 @@ fn reply_refusal(replier: &Replier, status: i32, payload: &[u8]) -> Option<Refus
     None
 }
 
-/// Why a replier sends no query.
+/// Why a replier sends no query; None where it sends one.
 fn query_refusal(replier: &Replier, status: i32, timeout: u32, payload: &[u8]) -> Option<Refusal>
     ensures { result ≡ query_refusal replier.now status timeout payload.now }
 {
@@ -64,7 +64,7 @@ fn query_refusal(replier: &Replier, status: i32, timeout: u32, payload: &[u8]) -
     reply_refusal(replier, status, payload)
 }
 
-/// Why a replier sends no error.
+/// Why a replier sends no error; None where it sends one.
 fn error_refusal(replier: &Replier, status: i32) -> Option<Refusal>
     ensures { result ≡ error_refusal replier.now status }
 {
@@ -90,7 +90,7 @@ fn push_reply(replier: &Replier, head: &MdHead, payload: &[u8], s: u16, out: &mu
     out.push_md(s, replier.peer(), head, payload);
 }
 
-/// Lets the object reply, and records what it gives.
+/// Lets the object reply, and adds its records.
 pub fn reply(
     object: &mut AnyObject,
     com_id: u32,
@@ -126,7 +126,7 @@ pub fn reply(
     Left::Ended
 }
 
-/// Lets the object reply by a query, and records what it gives.
+/// Lets the object reply by a query, and adds its records.
 pub fn query(
     object: &mut AnyObject,
     inquiry: &Inquiry<'_>,
@@ -172,7 +172,7 @@ pub fn query(
     replier.query(globals.now, timeout);
 }
 
-/// Lets the object send an error, and records what it gives.
+/// Lets the object send an error, and adds its records.
 pub fn reply_error(
     object: &mut AnyObject,
     com_id: u32,

@@ -39,7 +39,7 @@ pub fn open_pull(store: &mut Store, s: u16, terms: &RequesterTerms) -> PlainAnsw
     )
 }
 
-/// Lets the object pull, and records the answer and its pull request.
+/// Lets the object pull, and records the answer and its pull request (PD 'Pr').
 pub fn pull(object: &mut AnyObject, globals: &Globals, s: u16, out: &mut Outbox)
     requires { HasRoom out.old answer_room }
     ensures object { Some object.new ≡ (pulls globals.entry.now object.old).left }

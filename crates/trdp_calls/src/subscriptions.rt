@@ -66,7 +66,7 @@ fn subscribed_size(
 /// the slot changes.
 ///
 /// # Errors
-/// Want of memory for the subscription.
+/// [`AllocError`] where there is no memory for the subscription.
 pub fn subscribe(
     store: &mut Store,
     s: u16,

@@ -1,4 +1,4 @@
-//! A value that is handed over as an item.
+//! A value that a caller passes as an item.
 
 ghost use Rattle.std.specs.Prelude.{◌≡◌, IfOk, IfErr, None};
 ghost use Rattle.trdp_marshal.specs.Items.{model_of};
@@ -14,9 +14,9 @@ use trdp_model::{AnyObject, Refusal};
 /// Why an item has no bytes for an object.
 #[derive(Clone, Copy)]
 pub enum SpellFault {
-    /// The call is refused so.
+    /// The call is refused for this reason.
     Refused(Refusal),
-    /// Memory for the bytes was refused.
+    /// There is no memory for the bytes.
     NoMemory,
 }
 

@@ -1,4 +1,4 @@
--- The files of paths, at which somebody listens one after another.
+-- The files of paths, at which a process listens one after another.
 -- For the functions of `opening`.
 -- By: those that were granted first, and then the others, up to the one that was refused.
 use Rattle.std.proofs.Common.{◌≡◌, zero, suc, ℕ, List, [], ◌∷◌, ◌++◌, Option, Some, None}
@@ -16,7 +16,7 @@ use Rattle.trdp_controls.specs.Folders.{refusal_of, StopsListening, ListensInTur
 use Rattle.trdp_controls.specs.declared.listen_fault.ListenFault.{ListenFault}
 use Rattle.trdp_controls.specs.declared.listen_fault.ListenFault.TheVariants.{OutOfMemory}
 
--- somebody listens at these, and then at those
+-- a process listens at these, and then at those
 pub listened_both : (front files : List ℕ) (a b c : Option (List Listening))
     → TellsMore a b (map granted front) → TellsMore b c (map granted files)
     → TellsMore a c (map granted (front ++ files))
@@ -24,7 +24,7 @@ listened_both front files a b c first then_these =
     subst (λ (l : List Listening). TellsMore a c l) (sym (map-append granted front files))
     (adds_both a b c (map granted front) (map granted files) first then_these)
 
--- somebody listens at these files, of which more come
+-- a process listens at these files, of which more come
 pub record Listened (files : List ℕ) (a b : Option (List Listening)) (rest : List ℕ)
     : Type 0 where
   pub done : List ℕ
@@ -44,7 +44,7 @@ listened_more files more rest a b c so_far then_these = record {
   whole = append_assoc so_far.done more rest ∙ so_far.whole;
 }
 
--- or it came to a fault
+-- or it ended with a fault
 pub listened_stops : (files more rest : List ℕ) (fault : ListenFault)
     (a b c : Option (List Listening))
     → Listened files a b (more ++ rest) → StopsListening more fault b c
@@ -70,7 +70,7 @@ listened_stops files more rest fault a b c so_far stop =
       wanting = stop.wanting;
     }
 
--- somebody listens at all of them
+-- a process listens at all of them
 pub listened_all : (files : List ℕ) (a b : Option (List Listening))
     → Listened files a b [] → TellsMore a b (map granted files)
 listened_all files a b p = subst (λ (l : List ℕ). TellsMore a b (map granted l)) whole p.told
@@ -78,7 +78,7 @@ listened_all files a b p = subst (λ (l : List ℕ). TellsMore a b (map granted 
     whole : p.done ≡ files
     whole = sym (append-nil p.done) ∙ p.whole
 
--- a fault behind some files, and one before more of them
+-- a fault after some files, and one before more of them
 pub stops_behind : (front files : List ℕ) (fault : ListenFault)
     (a b c : Option (List Listening))
     → TellsMore a b (map granted front) → StopsListening files fault b c
@@ -95,7 +95,7 @@ pub stops_before : (files more : List ℕ) (fault : ListenFault) (a b : Option (
 stops_before files more fault a b stop =
     listened_stops (files ++ more) files more fault a a b (listened_none (files ++ more) a) stop
 
--- somebody listens at these, but there is no memory for more
+-- a process listens at these, but an allocation for more fails
 pub stops_wanting : (files : List ℕ) (a b : Option (List Listening))
     → TellsMore a b (map granted files) → StopsListening files OutOfMemory a b
 stops_wanting files a b told = record {
@@ -138,7 +138,7 @@ one_refused (suc n) fault a b some told = record {
   wanting = tt;
 }
 
--- the next port, and those behind it
+-- the next port, and those after it
 drop_at : (numbers : List ℕ) (i number : ℕ) → i < length numbers
     → number ≡ unwrap_or (slice_get numbers i) 0
     → drop i numbers ≡ number ∷ drop (suc i) numbers
@@ -155,7 +155,7 @@ next_port numbers i number found below here is =
     drop_at numbers i number below (is ∙ ap (λ o. unwrap_or o 0) here)
     ∙ ap (λ n. number ∷ drop n numbers) next
 
--- somebody listens at all files but those of the ports to come, of which this is the next
+-- a process listens at all files but those of the ports to come, of which this is the next
 pub listened_next : (files numbers : List ℕ) (i number : ℕ) (a b : Option (List Listening))
     → drop i numbers ≡ number ∷ drop (i + 1) numbers
     → Listened files a b (flat_map file_unless_0 (drop i numbers))

@@ -1,4 +1,4 @@
--- What a system's answers are taken for.
+-- What a system's answers mean.
 use Rattle.std.specs.Prelude.{ℕ, zero, suc, Result, Ok, Err}
 use Rattle.std.specs.IoError.{error_kind}
 use Rattle.std.specs.declared.io.Error.{Error}
@@ -28,36 +28,36 @@ abbrev pub unaccepted_of : ErrorKind → Accepted
 unaccepted_of kind.WouldBlock = NobodyCame
 unaccepted_of _ = Failed
 
--- what a read of so many bytes comes to: the stream has ended where it read none
+-- what a read of that many bytes finds: the stream has ended where it read none
 abbrev pub count_came : ℕ → Came
 count_came zero = Ended
 count_came (suc n) = Bytes (suc n)
 
--- what a read comes to that fails with an error of this kind: nothing where it would have to wait
--- or was interrupted, and else the stream has ended
+-- what a read finds that fails with an error of this kind: nothing where it would have to wait or
+-- was interrupted, and else the stream has ended
 abbrev pub unread_of : ErrorKind → Came
 unread_of kind.WouldBlock = Nothing
 unread_of kind.Interrupted = Nothing
 unread_of _ = Ended
 
--- what a read comes to by what a system says
+-- what a read finds by what a system says
 abbrev pub came_of : Result ℕ Error → Came
 came_of (Ok count) = count_came count
 came_of (Err error) = unread_of (error_kind error)
 
--- what a write of so many bytes comes to
+-- what a write of that many bytes does
 abbrev pub count_went : ℕ → Went
 count_went zero = TookNone
 count_went (suc n) = Took (suc n)
 
--- what a write comes to that fails with an error of this kind: nothing where it would have to wait
--- or was interrupted, and else the stream has ended
+-- what a write does that fails with an error of this kind: nothing where it would have to wait or
+-- was interrupted, and else the stream has ended
 abbrev pub unwritten_of : ErrorKind → Went
 unwritten_of kind.WouldBlock = TookNone
 unwritten_of kind.Interrupted = TookNone
 unwritten_of _ = TookNoMore
 
--- what a write comes to by what a system says
+-- what a write does by what a system says
 abbrev pub went_of : Result ℕ Error → Went
 went_of (Ok count) = count_went count
 went_of (Err error) = unwritten_of (error_kind error)

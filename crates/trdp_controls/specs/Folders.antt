@@ -11,7 +11,7 @@ use Rattle.trdp_daemon.specs.Told.{TellsMore}
 use Rattle.trdp_controls.specs.declared.listen_fault.ListenFault.{ListenFault}
 use Rattle.trdp_controls.specs.declared.listen_fault.ListenFault.TheVariants.{OutOfMemory}
 
--- that somebody listens at the file of a number, and the fault if it was refused
+-- a process listens at the file of a number, with the fault if it was refused
 pub data Listening : Type 0 where
   ListensAt : (number : ℕ) (fault : Option ListenFault) → Listening
 
@@ -39,8 +39,8 @@ abbrev pub refusal_of : Option ℕ → ListenFault → List Listening
 refusal_of None fault = []
 refusal_of (Some number) fault = ListensAt number (Some fault) ∷ []
 
--- somebody listens at the first of these files, one after another; then one was refused with this
--- fault, or there was no memory for more
+-- a process listens at the first of these files, one after another; then one was refused with this
+-- fault, or an allocation failed for the next
 pub record StopsListening (files : List ℕ) (fault : ListenFault)
     (old new : Option (List Listening)) : Type 0 where
   pub front : List ℕ
@@ -50,7 +50,7 @@ pub record StopsListening (files : List ℕ) (fault : ListenFault)
   pub asked : TellsMore old new (map granted front ++ refusal_of last fault)
   pub wanting : IfNone last (fault ≡ OutOfMemory)
 
--- somebody listens at each of these files, one after another; or it came to this fault
+-- a process listens at each of these files, one after another; or it ended with this fault
 abbrev pub ListensInTurn : List ℕ → Option ListenFault → Option (List Listening)
     → Option (List Listening) → Type 0
 ListensInTurn files None old new = TellsMore old new (map granted files)

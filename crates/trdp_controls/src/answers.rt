@@ -1,4 +1,4 @@
-//! What the system's answers are taken for.
+//! What the system's answers mean.
 
 ghost use Rattle.std.specs.Prelude.{◌≡◌};
 ghost use Rattle.trdp_controls.specs.Answers.{came_of, unaccepted_of, went_of};
@@ -8,7 +8,7 @@ use std::io;
 use std::io::ErrorKind;
 use trdp_lines::{Accepted, Came, Went};
 
-/// What a read comes to by what the system says: no bytes are the end of a stream.
+/// What a read finds, by what the system says: no bytes are the end of a stream.
 pub(crate) fn came_of(read: io::Result<usize>) -> Came
     ensures { result ≡ came_of read }
 {
@@ -22,7 +22,7 @@ pub(crate) fn came_of(read: io::Result<usize>) -> Came
     }
 }
 
-/// What a write comes to by what the system says.
+/// What a write does, by what the system says.
 pub(crate) fn went_of(written: io::Result<usize>) -> Went
     ensures { result ≡ went_of written }
 {

@@ -9,19 +9,19 @@ use crate::listen_fault::ListenFault;
 use trdp_lines::Connections;
 
 /// A folder in which the paths of a node are: files that have a number as their name (profile). It
-/// may tell what was asked of it.
+/// may report what was asked of it.
 pub trait Folder<C: Connections> {
     ghost use Rattle.std.specs.Prelude.{List, Option};
     ghost use Rattle.trdp_controls.specs.Folders.{Listening};
 
-    /// What was asked of it, in order, with the answers; none where this folder doesn't tell.
+    /// What was asked of it, in order, with the answers; none where this folder reports nothing.
     ghost listenings: { Self → Option (List Listening) };
 
-    /// Listens at the file of that number: the answer is what comes in there, which nothing did yet.
-    /// Of what comes the system tells by the number of the socket that the port would have.
+    /// Listens at the file of that number: the answer is what comes in there, which nothing did
+    /// yet. The system reports what comes by the number of the socket that the port would have.
     ///
     /// # Errors
-    /// [`ListenFault`] where nobody listens there then.
+    /// [`ListenFault`] where no process listens there then.
     fn listen(&mut self, number: u16, socket: usize) -> Result<C, ListenFault>
         ensures told { TellsMore (listenings self.old) (listenings self.new)
             (ListensAt number (fault_of result) ∷ []) }

@@ -1,15 +1,11 @@
 //! The wire of a node whose lines come over control sockets: for each control port a Unix stream
-//! socket, the file FOLDER/NUMBER, as `/run/trdpd/18000`.
+//! socket, the file FOLDER/NUMBER, for example `/run/trdpd/18000`.
 //!
-//! [`ControlWire`] is a wire over two sides: process data and message data go over a wire of the
-//! network, and the lines of the operator and of the applications over the paths of `trdp_lines`.
-//! What a take and a give at a port make of either side is proved for any network and any
-//! connections: a take at the control port of a slot is one at the path of that slot and at no
-//! other, and the place that a line comes from is the number of its connection.
-//!
-//! [`ControlWire::open`] listens at the paths of a configuration, in a [`Folder`]: each is at the
-//! file of its control port's number. [`SystemFolder`] is one of the system, and
-//! [`SystemConnections`] are those that come in at one of its paths:
+//! - [`ControlWire`] is a wire over two sides. Process data and message data go over a wire of the
+//!   network, the lines of the operator and of the applications over the paths of `trdp_lines`.
+//!   [`ControlWire::open`] listens at the paths of a configuration in a [`Folder`].
+//! - [`SystemFolder`] is a folder of the system. [`SystemConnections`] are those that come in at
+//!   one of its paths.
 //!
 //! ```text
 //! let network = RestingWire::bind_network(rt, rt.alloc(), &config)?;
@@ -17,20 +13,28 @@
 //! let wire = ControlWire::open(rt.alloc(), &mut folder, network, &config)?;
 //! ```
 //!
-//! A socket's file at which nobody listens any more is replaced; nothing else that stands at the
-//! path is touched. Of two nodes that begin at one path at the same moment, one may take the file
-//! of the other for such: a node binds its ports for process data before, which only one can.
+//! A socket's file at which no process listens any more is replaced; nothing else at the path is
+//! touched. Of two nodes that start at one path at the same time, one may take the file of the
+//! other for such a file. So a node binds its ports for process data before, which only one of
+//! them can. The file's mode is 0660, whatever the umask: its owner and its group may connect. No
+//! one else ever could, since the file comes with no wider mode.
 //!
-//! The file's mode is 0660, whatever the umask: its owner and its group may connect. Nobody else
-//! ever could, since the file comes with no wider mode.
+//! The system reports what comes at a path to the network's wire, by the number of the socket that
+//! the port would have. A take at a path of which there are no news asks nothing.
 //!
-//! What comes at a path the system tells to the network's wire, by the number of the socket that
-//! the port would have: a take at a path of which there are no news asks nothing.
+//! `trdp_program` serves a node over this wire where it is given a folder.
 //!
-//! What the system does at a call no contract can say: each call here is one of its own, with no
-//! more than bounds and what its answer is taken for. Nor does one say by which number it tells,
-//! when the news of a path end, or when a rest of the wire waits: the wire forgets the news where
-//! the path heard nothing, and rests where none did. The tests over daemons try it.
+//! **Proved**, for any network, folder and connections: which files are listened at, in which
+//! order; what a take and a give at a port do on either side. A take at the control port of a slot
+//! is one at the path of that slot and at no other, and the place that a line comes from is the
+//! number of its connection.
+//!
+//! **Tested** over daemons: by which number the system reports, when the news of a path end, and
+//! when a rest of the wire waits. The wire forgets the news where the path heard nothing, and
+//! rests where none did.
+//!
+//! **Trusted**: the system. Each call here is one of the system's, with bounds and a reading of
+//! its answer.
 #![tactic(auto)]
 
 mod answers;

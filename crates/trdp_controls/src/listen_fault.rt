@@ -1,4 +1,4 @@
-//! Why nobody listens at a path.
+//! Why no process listens at a path.
 
 ghost use Rattle.std.specs.Prelude.{◌≡◌};
 ghost use Rattle.std.specs.IoError.{error_kind};
@@ -7,13 +7,13 @@ ghost use Rattle.trdp_controls.specs.Answers.{fault_of_kind};
 use std::io;
 use thiserror::Error;
 
-/// Why nobody listens at a path.
+/// Why no process listens at a path.
 #[derive(Clone, Copy, Debug, PartialEq, Eq, Error)]
 pub enum ListenFault {
     /// The system refuses the path, or it has too many bytes.
     #[error("the path of a socket is refused")]
     Refused = 1,
-    /// There is no memory for it.
+    /// An allocation for it fails, or the system is out of memory.
     #[error("there is no memory for a socket")]
     OutOfMemory = 2,
 }

@@ -1,5 +1,5 @@
-//! The paths of a node, at which somebody listens before the first turn: one after another, in the
-//! order of a turn.
+//! The paths of a node, at which it listens before the first turn: one after another, in the order
+//! of a turn.
 
 ghost use Rattle.std.specs.Prelude.{◌≡◌, ◌∷◌, [], ◌++◌, map, IfOk, IfSome, OnOk};
 ghost use Rattle.std.specs.Option.{option_map};
@@ -29,8 +29,8 @@ impl<N: Wire + Drop, C: Connections + Drop> ControlWire<N, C> {
     /// They are the paths of a wire over that network. A port of the number 0 has no path.
     ///
     /// # Errors
-    /// At the first file at which nobody listens then: its fault. `OutOfMemory` too where there is
-    /// none for a path.
+    /// At the first file at which it can't listen: that fault. `OutOfMemory` too where an
+    /// allocation for a path fails.
     pub fn open<F: Folder<C>>(
         alloc: Global,
         folder: &mut F,

@@ -6,7 +6,7 @@ ghost use Rattle.trdp_controls.specs.Paths.{path_of};
 use crate::listen_fault::ListenFault;
 use std::alloc::Global;
 
-/// The most bytes of a socket's path that the system takes.
+/// The most bytes of a socket's path that the system accepts.
 const PATH_MAX: usize = 107;
 
 /// The path of a control port's socket: the file in the folder that has the port's number as its

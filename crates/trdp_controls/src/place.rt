@@ -1,18 +1,18 @@
-//! Where the lines of a connection come from, as the node is told it.
+//! Where the lines of a connection come from, as the node sees it.
 
 ghost use Rattle.std.specs.Prelude.{◌≡◌};
 ghost use Rattle.trdp_controls.specs.Places.{number_of_place, place_of_number};
 
 use trdp_base::{Ip, Place};
 
-/// How many numbers a port may have.
+/// How many port numbers there are.
 const PORTS: u64 = 65_536;
 
-/// How many numbers an address may have.
+/// How many addresses there are.
 const ADDRESSES: u64 = 4_294_967_296;
 
-/// The place of the connection of that number, which stands for address and port (profile): the
-/// address is what 65,536 divides it by, and the port what is left.
+/// The place of the connection of that number, in the form of address and port (profile): the
+/// address is the number divided by 65,536, and the port is the remainder.
 pub(crate) fn place_of(number: u64) -> Place
     ensures { result ≡ place_of_number number }
 {

@@ -12,26 +12,27 @@ use std::os::unix::fs::{FileTypeExt, PermissionsExt};
 use std::os::unix::net;
 use std::{fs, io};
 
-/// The mode of a socket's file: its owner and its group may connect, which takes leave to write.
+/// The mode of a socket's file: its owner and its group may connect, which needs leave to write.
 const MODE: u32 = 0o660;
 
-/// How many connections may wait until they are accepted: as many as the system lets.
+/// How many connections may wait until they are accepted: as many as the system allows.
 const BACKLOG: i32 = -1;
 
-/// Why a path is refused, if it is: the system's own words, as `Address already in use (os error
-/// 98)`. It listens there once more, and leaves nothing behind.
+/// Why the system refuses a path, in its own words, for example `Address already in use (os error
+/// 98)`; None where it doesn't. It listens there once, and leaves nothing behind.
 pub fn refused_path<R: Files + Net>(rt: &R, path: &str) -> Option<io::Error> {
     match listen_at(rt, path, &None) {
-        // The file goes first: nobody else takes it for one at which nobody listens.
+        // The file goes first: no one else takes it for one at which no process listens.
         Ok(_listener) => fs::remove_file(rt, path).err(),
         Err(error) => Some(error),
     }
 }
 
-/// Listens at a path, whose file is this listener's own, and has the system tell of whoever comes.
+/// Listens at a path, whose file is this listener's own, and asks the system to report each
+/// connection that comes.
 ///
 /// # Errors
-/// What the system says to it; the path is left then as it was, or free.
+/// The system's error; the path is left then as it was, or free.
 pub(crate) fn listen_at<R: Files + Net>(
     rt: &R,
     path: &str,
@@ -46,25 +47,25 @@ pub(crate) fn listen_at<R: Files + Net>(
     match begin(rt, path, socket, teller) {
         Ok(listener) => Ok(listener),
         Err(error) => {
-            // Where it can't be removed, it is one at which nobody listens.
+            // Where it can't be removed, it is one at which no process listens.
             let _ = fs::remove_file(rt, path);
             Err(error)
         }
     }
 }
 
-/// A socket with the mode of its file to be: the system makes the file with that, less what the
-/// umask takes away, so that no moment is there at which others may connect.
+/// A socket with the mode of its file to be: the system makes the file with that mode, less what
+/// the umask takes away, so that there is no time at which others may connect.
 ///
 /// # Errors
-/// What the system says to it.
+/// The system's error.
 fn new_socket<R: Net>(rt: &R) -> io::Result<OwnedFd> {
     let socket = rt.unix_socket()?;
     check(libc::fchmod(socket.as_raw_fd(), MODE))?;
     Ok(socket)
 }
 
-/// Whether there is a socket's file at a path at which nobody listens.
+/// Whether there is a socket's file at a path at which no process listens.
 fn is_stale<R: Files + Net>(rt: &R, path: &str) -> bool {
     match fs::symlink_metadata(rt, path) {
         Ok(found) => found.file_type().is_socket() && is_deserted(rt, path),
@@ -72,7 +73,7 @@ fn is_stale<R: Files + Net>(rt: &R, path: &str) -> bool {
     }
 }
 
-/// Whether nobody listens at a socket's file.
+/// Whether no process listens at a socket's file.
 fn is_deserted<R: Net>(rt: &R, path: &str) -> bool {
     match UnixStream::connect(rt, path) {
         Ok(_) => false,
@@ -83,7 +84,7 @@ fn is_deserted<R: Net>(rt: &R, path: &str) -> bool {
 /// Listens at a socket that is bound, once its file has the whole mode.
 ///
 /// # Errors
-/// What the system says to it.
+/// The system's error.
 fn begin<R: Files>(
     rt: &R,
     path: &str,
@@ -99,10 +100,10 @@ fn begin<R: Files>(
     Ok(listener)
 }
 
-/// The system's error at the call that has just answered a status, if that tells of one.
+/// Ok where the call that has just answered this status succeeded.
 ///
 /// # Errors
-/// That one.
+/// The system's error at that call.
 fn check(status: i32) -> io::Result<()>
     ensures { IsOk result ↔ (pos 0 ≤ℤ status) }
 {
@@ -113,10 +114,10 @@ fn check(status: i32) -> io::Result<()>
     }
 }
 
-/// Has the system tell, where it tells at all, when a source has something to read.
+/// Asks the system to report when a source has something to read; nothing without a teller.
 ///
 /// # Errors
-/// What the system says to it.
+/// The system's error.
 pub(crate) fn watch<S: Source>(teller: &Option<Teller>, source: &mut S) -> io::Result<()> {
     match teller {
         Some(teller) => teller.watch(source),
@@ -124,8 +125,8 @@ pub(crate) fn watch<S: Source>(teller: &Option<Teller>, source: &mut S) -> io::R
     }
 }
 
-/// Has the system tell of a source that is watched, where it tells at all, from now on when it has
-/// something to read, and if so asked, when it has room for what is written.
+/// Asks the system to report a source that is watched, from now on, when it has something to read
+/// and, where `room` is true, when it has room for what is written; nothing without a teller.
 pub(crate) fn watch_room<S: Source>(teller: &Option<Teller>, source: &mut S, room: bool) {
     if let Some(teller) = teller {
         // Where the system refuses it, what waits goes out at the next news of the path.

@@ -16,23 +16,23 @@ use std::net::Net;
 use std::{array, io};
 use trdp_lines::{Accepted, Came, Connections, Went};
 
-/// The most connections that are open at once: four operators, one that waits behind them, and one
+/// The most connections that are open at once: four operators, one that waits for a seat, and one
 /// that is told that there are others.
 const OPEN_MAX: usize = 6;
 
-/// How often a call is made that a signal interrupts.
+/// How often a call is made that signals interrupt.
 const TRIES: u32 = 8;
 
-/// The connections of the system at a path. They tell nothing.
+/// The connections of the system at a path. They report nothing.
 #[derive(Drop)]
 pub struct SystemConnections {
     /// The number that is the name of the path's file.
     file_number: u16,
-    /// Where they come in.
+    /// The socket at which they come in.
     listener: UnixListener,
-    /// Those that are open, and room for more.
+    /// Those that are open; None is a free seat.
     seats: [Option<Seated>; OPEN_MAX],
-    /// Where the system tells that one came, or can go on; None where it doesn't.
+    /// Where the system reports that one came, or can go on; None where it doesn't.
     teller: Option<Teller>,
 }
 
@@ -41,20 +41,20 @@ pub struct SystemConnections {
 struct Seated {
     /// The number by which it is called.
     number: u64,
-    /// Its bytes.
+    /// The stream of its bytes.
     stream: UnixStream,
-    /// Whether the system tells of room: the other side didn't take all of the last write.
+    /// Whether the system reports room: the other side didn't take all of the last write.
     is_behind: bool,
 }
 
 impl SystemConnections {
-    /// Listens at the file of that number in a folder. The system tells, if it tells at all, when a
-    /// connection, bytes, room for more or an end comes.
+    /// Listens at the file of that number in a folder. Where there is a teller, the system reports
+    /// when a connection, bytes, room for more or an end comes.
     ///
     /// # Errors
-    /// `Refused` where somebody listens there, where something else than the file of a socket
-    /// stands there, which is left as it is, where the path has more than 107 bytes, or where the
-    /// system refuses it otherwise; `OutOfMemory` where there is no memory for it.
+    /// `Refused` where a process listens there, where something else than the file of a socket is
+    /// there, which is left as it is, or where the path has more than 107 bytes. `Refused` too
+    /// where the system refuses it otherwise; `OutOfMemory` where an allocation for it fails.
     pub fn listen<R: Files + Net>(
         rt: &R,
         alloc: Global,
@@ -76,7 +76,7 @@ impl SystemConnections {
         }
     }
 
-    /// The open connection of that number.
+    /// The stream of the open connection of that number; None where none is open.
     fn stream(&self, number: u64) -> Option<&UnixStream> {
         for seat in self.seats.iter() {
             match seat {
@@ -112,8 +112,8 @@ impl Seated {
     ghost use Rattle.std.specs.Prelude.{◌<◌, length};
     ghost use Rattle.trdp_lines.specs.Connections.{WentWithin};
 
-    /// Writes once. The system tells of room only while some is missing: it would else tell each
-    /// time that the other side reads.
+    /// Writes once. The system reports room only while some is missing: otherwise it would report
+    /// each time that the other side reads.
     fn write(&mut self, bytes: &[u8], teller: &Option<Teller>) -> Went
         ensures { WentWithin (length bytes.now) result }
     {
@@ -169,7 +169,7 @@ impl Connections for SystemConnections {
     }
 }
 
-/// Whether a connection of that number sits there.
+/// Whether a connection of that number has this seat.
 fn is_of(seat: &Option<Seated>, number: u64) -> bool {
     match seat {
         Some(seated) => seated.number == number,
@@ -178,11 +178,11 @@ fn is_of(seat: &Option<Seated>, number: u64) -> bool {
 }
 
 /// Reads once from a stream. A read that a signal interrupts is made again, since the system
-/// doesn't tell a second time that bytes are there. Where each of them is interrupted, the bytes
+/// doesn't report a second time that bytes are there. Where each of them is interrupted, the bytes
 /// wait until the next take.
 ///
 /// # Errors
-/// What the system says to it.
+/// The system's error.
 fn read_from(mut stream: &UnixStream, room: &mut [u8]) -> io::Result<usize>
     ensures { ReadsAtMost result room.new }
 {
@@ -198,7 +198,7 @@ fn read_from(mut stream: &UnixStream, room: &mut [u8]) -> io::Result<usize>
 /// Writes once to a stream. A write that a signal interrupts is made again.
 ///
 /// # Errors
-/// What the system says to it.
+/// The system's error.
 fn write_to(mut stream: &UnixStream, bytes: &[u8]) -> io::Result<usize>
     ensures { WritesAtMost result bytes.now }
 {

@@ -10,7 +10,7 @@ use std::fs::Files;
 use std::io;
 use std::net::Net;
 
-/// A folder of the system, in which each path is the file of a Unix stream socket. It tells
+/// A folder of the system, in which each path is the file of a Unix stream socket. It reports
 /// nothing.
 #[derive(Drop)]
 pub struct SystemFolder<'a, R: Files + Net> {
@@ -20,13 +20,14 @@ pub struct SystemFolder<'a, R: Files + Net> {
     alloc: Global,
     /// The path of the folder.
     path: &'a str,
-    /// Where the system tells that a connection, bytes, room or an end came; None where it doesn't.
+    /// Where the system reports that a connection, bytes, room or an end came; None where it
+    /// doesn't.
     registry: Option<Registry>,
 }
 
 impl<'a, R: Files + Net> SystemFolder<'a, R> {
-    /// A folder, at whose files nobody listens yet. The system tells the registry, if there is one,
-    /// of what comes at each of them.
+    /// A folder, at whose files no process listens yet. The system reports to the registry, if
+    /// there is one, what comes at each of them.
     pub fn new(
         rt: &'a R,
         alloc: Global,
@@ -41,10 +42,10 @@ impl<'a, R: Files + Net> SystemFolder<'a, R> {
         }
     }
 
-    /// Who tells of one more path, by the number of this socket.
+    /// What reports one more path, by the number of this socket; None without a registry.
     ///
     /// # Errors
-    /// What the system says to it.
+    /// The system's error.
     fn teller(&self, socket: usize) -> io::Result<Option<Teller>> {
         match &self.registry {
             Some(registry) => Ok(Some(Teller {

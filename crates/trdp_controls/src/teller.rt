@@ -1,33 +1,33 @@
-//! Who tells what comes at a path.
+//! What reports that something comes at a path.
 
 use mio::event::Source;
 use mio::{Interest, Registry, Token};
 use std::io;
 
-/// Where the system is asked to tell of a path, and by which number it does.
+/// Where the system is asked to report a path, and by which number it does.
 #[derive(Drop)]
 pub struct Teller {
-    /// What it is asked by.
+    /// Where it is asked.
     pub registry: Registry,
     /// The number of the socket that the path's port would have.
     pub socket: usize,
 }
 
 impl Teller {
-    /// Has the system tell when a source has something to read.
+    /// Asks the system to report when a source has something to read.
     ///
     /// # Errors
-    /// What the system says to it.
+    /// The system's error.
     pub(crate) fn watch<S: Source>(&self, source: &mut S) -> io::Result<()> {
         self.registry
             .register(source, Token(self.socket), Interest::READABLE)
     }
 
-    /// Has the system tell of a source that is watched, from now on, when it has something to read,
-    /// and if so asked, when it has room for what is written.
+    /// Asks the system to report a source that is watched, from now on, when it has something to
+    /// read and, where `room` is true, when it has room for what is written.
     ///
     /// # Errors
-    /// What the system says to it.
+    /// The system's error.
     pub(crate) fn watch_room<S: Source>(&self, source: &mut S, room: bool) -> io::Result<()> {
         let interest = if room {
             Interest::READABLE | Interest::WRITABLE

@@ -1,6 +1,6 @@
 -- The control ports of slots, one after another.
--- For `ports_of`, `push_control`, `control_number` and `ask_for_ports`, and for `EachPortLemmas` and
--- `GroupPortLemmas`.
+-- For `ports_of`, `push_control`, `control_number` and `ask_for_ports`, and for `EachPortLemmas`
+-- and `GroupPortLemmas`.
 -- By a loop's invariant: the ports so far, and one for each number of those left.
 use Rattle.std.proofs.Common.{◌≡◌, suc, ◌+◌, ◌<◌, ℕ, List, [], ◌∷◌, ◌++◌, Some, None}
 use Rattle.std.proofs.Common.{refl, sym, ◌∙◌, ap, arith, append_assoc, append-nil, length, drop}
@@ -41,7 +41,7 @@ ports_next numbers i number before after here more =
     ∙ ap (λ l. before ++ l) (sym (ap (control_ports i) (drop_get numbers i number here)
     ∙ ports_cons i number (drop (i + 1) numbers)))
 
--- the next of some numbers, and those behind it
+-- the next of some numbers, and those after it
 pub number_next : (numbers : List ℕ) (i : ℕ) → i < length numbers
     → drop i numbers ≡ get_or numbers i 0 ∷ drop (i + 1) numbers
 number_next numbers i below =
@@ -55,7 +55,7 @@ no_slot (number ∷ numbers) i below none =
     let some = slice_get-get_or (number ∷ numbers) i number below in
     cc
 
--- the number of a control port stands among those of the slots, or behind them
+-- the number of a control port is among those of the slots, or after them
 pub number_among : (slots : List SlotModel) (spare : List ℕ) (i : ℕ) → i < length slots
     → slice_get (map (λ slot. slot.control_port) slots ++ spare) i
     ≡ option_map (λ slot. slot.control_port) (slice_get slots i)
@@ -89,7 +89,7 @@ ports_start config items number is start =
     ∙ append_assoc (network_ports config) (port_unless_0 number Operator) controls
     ∙ ap (λ n. network_ports config ++ (port_unless_0 n Operator ++ controls)) is
 
--- the port of one slot, and those of the slots behind it
+-- the port of one slot, and those of the slots after it
 pub control_next : (numbers : List ℕ) (i : ℕ) → i < length numbers
     → control_ports i (drop i numbers)
     ≡ port_unless_0 (unwrap_or (slice_get numbers i) 0) (Control i)
@@ -104,7 +104,7 @@ control_next numbers i below = by_number (slice_get numbers i) refl
         sym (ports_next numbers i number [] (port_unless_0 number (Control i)) is refl)
     by_number None is = absurd (no_slot numbers i below is)
 
--- behind the last slot there are none
+-- after the last slot there are none
 pub control_end : (numbers : List ℕ) (i : ℕ)
     → length numbers ≡ i → control_ports i (drop i numbers) ≡ []
 unfolding control_ports

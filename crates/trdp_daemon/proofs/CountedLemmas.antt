@@ -44,14 +44,14 @@ turns_counted_from {s} {t} {m} {n} ts gs service totals counted =
     subst (λ (x : Totals). TurnsCounted x t ts gs) totals
     (subst (λ (x : ServiceState). TurnsCounted m x ts gs) service counted)
 
--- what holds of the front of the gives and of those behind holds with more gives
+-- what holds of the front of the gives and of those after it holds with more gives
 more_gives : (P : List Give → List Give → Type 0) (n : ℕ) (gs hs : List Give) → n ≤ length gs
     → P (take n gs) (drop n gs ++ hs) → P (take n (gs ++ hs)) (drop n (gs ++ hs))
 more_gives P n gs hs within is =
     subst (λ (l : List Give). P l (drop n (gs ++ hs))) (sym (take-append-le n gs hs within))
     (subst (λ (l : List Give). P (take n gs) l) (sym (drop-append-le n gs hs within)) is)
 
--- takes with more gives behind
+-- takes with more gives after theirs
 visits_more : (totals : Totals) (s : ServiceState) (vs : List Visit) (gs hs : List Give)
     → length (visits_effect s vs).telling.offers ≤ length gs → VisitsCounted totals s vs gs
     → VisitsCounted totals s vs (gs ++ hs)
@@ -71,7 +71,7 @@ visits_more totals s (v ∷ vs) gs hs enough (here, counted) =
           hs left counted),
     )
 
--- a turn with more gives behind
+-- a turn with more gives after its own
 turn_more : (totals : Totals) (s : ServiceState) (turn : Turn) (gs hs : List Give)
     → length (turn_effect s turn).telling.offers ≤ length gs → TurnCounted totals s turn gs
     → TurnCounted totals s turn (gs ++ hs)
@@ -87,7 +87,7 @@ turn_more totals s turn gs hs enough counted =
     e.service turn.visits behind) n gs hs within
     (visits_more (counted_with totals [] e gs) e.service turn.visits (drop n gs) hs left counted)
 
--- what is counted by an effect, and by one behind it
+-- what is counted by an effect, and by one after it
 counted_on : (totals : Totals) (ts us : List Taking) (n : ℕ) (gs : List Give) (m k : ℕ)
     → totals_after totals (ts ++ us) gs (m + k)
     ≡ totals_after (totals_after totals ts (take n gs) m) us (drop n gs) k

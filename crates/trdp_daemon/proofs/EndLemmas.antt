@@ -1,6 +1,6 @@
--- The end of an application is told to nobody.
+-- The end of an application is reported to no one.
 -- For `an_end_tells_nobody`.
--- By induction on the slots: the one that begins anew has an answer alone, and no control place.
+-- By induction on the slots: the one that is reset has an answer alone, and no control place.
 use Rattle.std.proofs.Common.{◌≡◌, ◌∙◌, suc, ℕ, Bool, true, false, if◌then◌else◌, List, [], ◌∷◌}
 use Rattle.std.proofs.Common.{◌++◌, Option, Some, None, refl, sym, ap, length}
 use Rattle.std.specs.Prelude.{◌==◌, slice_set}
@@ -25,7 +25,7 @@ use Rattle.trdp_daemon.specs.Effects.{slots_records, text_telling}
 use Rattle.trdp_daemon.specs.Leases.{end_effect, ended_effect}
 use Rattle.trdp_daemon.proofs.SilenceLemmas.{none_there}
 
--- records that tell nothing, whether their texts are lost or not
+-- records that offer nothing, whether their texts are lost or not
 abbrev AreSilent : List (Option Contact) → List RecordModel → Type 0
 AreSilent contacts [] = Unit {0}
 AreSilent contacts (r ∷ records) =
@@ -83,7 +83,7 @@ unless_silent contacts None node t none =
     (slots_records (setup_of node.config) node.globals (CallIs t ResetCall) 0 node.slots) []
     (slots_silent contacts (setup_of node.config) node.globals t 0 node.slots none) tt
 
--- a slot that begins anew whose application has ended
+-- the reset of a slot whose application has ended
 end_silent : (s : ServiceState) (slot : ℕ) (loss : Loss)
     → (end_effect s slot loss).telling ≡ silence
 unfolding event_effect may_take_memory

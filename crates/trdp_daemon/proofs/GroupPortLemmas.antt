@@ -21,7 +21,7 @@ groups_next : (groups : List ℕ) (i : ℕ) → i < length groups
     ≡ two_ports (get_or groups i 0) ++ group_ports (drop (i + 1) groups)
 groups_next groups i below = ap group_ports (number_next groups i below)
 
--- all was asked but for the ports of a group and of those behind it
+-- all was asked but for the ports of a group and of those after it
 pub next_group : (f : Port → SocketCall) (all : List Port) (groups known : List ℕ) (i : ℕ)
     (a b : Option (List SocketCall)) → known ≡ groups → i < length known
     → Asked f all a b (group_ports (drop i groups))
@@ -34,7 +34,7 @@ next_group f all groups known i a b same below asked =
     ∙ ap (λ (gs : List ℕ). two_ports (get_or known i 0) ++ group_ports (drop (i + 1) gs)) same in
     subst (λ (l : List Port). Asked f all a b l) here asked
 
--- behind the last group all was asked
+-- after the last group all was asked
 pub last_group : (f : Port → SocketCall) (all : List Port) (groups known : List ℕ) (i : ℕ)
     (a b : Option (List SocketCall)) → known ≡ groups → length known ≤ i
     → Asked f all a b (group_ports (drop i groups)) → TellsMore a b (map f all)

@@ -1,4 +1,4 @@
--- What came of it that nothing came to a port, or the end of an application.
+-- The effect of a take that found nothing at a port, or the end of an application.
 -- For `Service::take_nothing` and `Service::take_end`.
 -- By cases on the port.
 use Rattle.std.proofs.Common.{◌≡◌, ℕ, List, [], Option, refl}

@@ -1,6 +1,6 @@
 -- Lines that can't be lost.
 -- For `lost_only_where_memory_is_taken`.
--- By cases on what the line means: where it takes no memory none can be wanting for it.
+-- By cases on what the line means: where it takes no memory it is never out of memory.
 use Rattle.std.proofs.Common.{◌≡◌, ℕ, suc, Bool, true, false, List, [], ◌∷◌, ◌++◌, Option, Some}
 use Rattle.std.proofs.Common.{None}
 use Rattle.std.proofs.Common.{Result, Ok, Err, IfOk, IfSome, refl, sym, ◌∙◌, ap, not, if◌then◌else◌}
@@ -37,7 +37,7 @@ use Rattle.trdp_daemon.specs.Visits.{lives_still}
 use Rattle.trdp_daemon.proofs.ServiceLemmas.{operator_not_lost}
 use Rattle.trdp_daemon.proofs.TurnLemmas.{effect_of}
 
--- topology counts give no record
+-- topology counters give no record
 topology_untold : (setup : NodeSetup) (g : Globals) (topo : Topo) (s : ℕ) (slots : List SlotState)
     → slots_records setup g (TopologyIs topo) s slots ≡ []
 topology_untold setup g topo s [] = refl
@@ -74,7 +74,7 @@ operators_untold node (DatagramIs protocol src dst bytes) of none = absurd of
 operators_untold node (CallIs s call) of none = absurd of
 operators_untold node (AddSlotIs quotas) of none = absurd (cc)
 
--- and wants no memory
+-- and needs no memory
 operators_take_none : (node : NodeModel) (event : EventModel)
     → IsOperators (Ok (Some event)) → opened_by event ≡ [] → MayTakeMemory node event → ⊥
 operators_take_none node (MomentIs t) of none may = absurd of

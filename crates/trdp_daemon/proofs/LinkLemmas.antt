@@ -80,7 +80,7 @@ carries_both {W} {takings_in} {gives_in} {a} {b} {c} {ts} {us} {x} {y} p q = rec
       ∙ totals_both a.totals ts us p.gives q.gives x.missed y.missed;
 }
 
--- the same takes and telling
+-- the same takes and offers
 unfoldable pub carries_as : {W : Type 0} {takings_in : W → Option (List Taking)}
     {gives_in : W → Option (List Give)} {a b : Link W} {ts us : List Taking} {x y : Telling}
     → Carries takings_in gives_in a b ts x → ts ≡ us → x ≡ y

@@ -1,4 +1,4 @@
--- What the calls of a wire in memory make of it.
+-- What the calls of a wire in memory do to it.
 -- For `MemoryWire::arrive`, `take`, `give` and `rest`.
 -- By cases: the wire has room for one thing more, or the call fails and is counted.
 use Rattle.std.proofs.Common.{◌≡◌, ◌==◌, ◌&&◌, ◌||◌, ◌<◌, ◌+◌, ◌-◌, ◌^◌, zero, suc}

@@ -1,6 +1,6 @@
 -- A slot that is open stays so.
 -- For `EachPortLemmas`.
--- By cases on the event: none closes a slot, and one opens another behind the last.
+-- By cases on the event: none closes a slot, and one opens another after the last.
 use Rattle.std.proofs.Common.{◌≡◌, suc, ℕ, Bool, true, false, if◌then◌else◌, List, [], ◌∷◌}
 use Rattle.std.proofs.Common.{Option, Some, None, Result, Ok, Err, refl, ap, length, length-append}
 use Rattle.std.proofs.Common.{◌≤◌, arith}

@@ -1,4 +1,4 @@
--- A slot that begins anew has its answer.
+-- A slot that is reset has its answer.
 -- For `take_reset`.
 -- By cases: a slot that is there sees the call, whose answer is a record.
 use Rattle.std.proofs.Common.{◌≡◌, ◌<◌, ◌≤◌, ℕ, zero, suc, List, [], ◌∷◌, length, Some}
@@ -29,7 +29,7 @@ not_there node s past =
     let refused : nat_le (length node.slots) s ≡ true = grind (arith, nat_tests) in
     rw refused refl
 
--- the answer to one that is there is told
+-- the answer to one that is there is offered
 pub reset_told : (old new : NodeModel) (records records_then : List RecordModel) (s : ℕ)
     → s < length old.slots → records ≡ []
     → ((r : ℕ) → StepsAsAlone old new records records_then (CallIs s ResetCall) r)

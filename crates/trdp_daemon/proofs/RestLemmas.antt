@@ -36,7 +36,7 @@ behind_more reading [] (turn ∷ more) some = refl
 behind_more reading (first ∷ turns) (turn ∷ more) some =
     behind_more first.reading turns (turn ∷ more) some
 
--- the same where these turns were added behind others
+-- the same where these turns were added after others
 last_push : {reading : ℕ} (first turns : List Turn) (turn : Turn) (more : List Turn)
     → more ≡ turn ∷ [] → turn.reading ≡ reading
     → reading ≡ last_reading (first ++ (turns ++ more))
@@ -61,7 +61,7 @@ turn_at s t a b x y ports reading named config read p = record {
   reading_is = p.reading_is;
 }
 
--- a rest behind turns changes nothing of them
+-- a rest after turns changes nothing of them
 unfoldable turns_rest : {W C : Type 0} {takings_in : W → Option (List Taking)}
     {gives_in : W → Option (List Give)} {readings_in : C → Option (List ℕ)}
     {n reading until : ℕ} {a b c : DaemonState W C}
@@ -86,7 +86,7 @@ turns_rest {W} {C} {takings_in} {gives_in} {readings_in} {n} {a} {b} {c} p q = r
   counted = p.counted;
 }
 
--- so many early turns, each with a rest behind it, and the reading of the last
+-- that many early turns, each with a rest after it, and the reading of the last
 pub record Attended {W C : Type 0} (takings_in : W → Option (List Taking))
     (gives_in : W → Option (List Give)) (readings_in : C → Option (List ℕ))
     (until n reading : ℕ) (old new : DaemonState W C) : Type 0 where
@@ -127,7 +127,7 @@ early_more {until = until} p q late =
           ∙ ap (λ b. b || false) late;
     }
 
--- early turns, and a rest behind them
+-- early turns, and a rest after them
 unfoldable early_rest : {W C : Type 0} {takings_in : W → Option (List Taking)}
     {gives_in : W → Option (List Give)} {readings_in : C → Option (List ℕ)}
     {until n reading : ℕ} {a b c : DaemonState W C}
@@ -168,7 +168,7 @@ attended_more {n = n} {a = a} {b} {c} {d} p turn late early rest = record {
       last_push [] p.early.taken.turns turn.turn turn.taken.turns turn.turn_is turn.reading_is;
 }
 
--- who has served goes on by what was attended, by its end
+-- a daemon that has served goes on by what was attended, by its end
 by_end : {W C : Type 0} {takings_in : W → Option (List Taking)}
     {gives_in : W → Option (List Give)} {readings_in : C → Option (List ℕ)}
     {config : ConfigModel} {lease : Option ℕ} {wire : W} {clock : C} {until reading n k : ℕ}
@@ -222,7 +222,7 @@ by_end {W} {C} {takings_in} {gives_in} {readings_in} {config} {lease} {wire} {cl
       reading_is = all.2 ∙ sym (behind_more 0 h.turns p.taken.turns some);
     })
 
--- who has served goes on by what was attended
+-- a daemon that has served goes on by what was attended
 pub served_until : {W C : Type 0} {takings_in : W → Option (List Taking)}
     {gives_in : W → Option (List Give)} {readings_in : C → Option (List ℕ)}
     {config : ConfigModel} {lease : Option ℕ} {wire : W} {clock : C} {until reading n : ℕ}

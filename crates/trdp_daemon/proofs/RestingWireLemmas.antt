@@ -1,4 +1,4 @@
--- Of what the resting wire keeps news.
+-- The sockets of which the resting wire keeps news.
 -- For `RestingWire::over` and `note_events`.
 -- By induction on the list.
 use Rattle.std.proofs.Common.{◌≡◌, ℕ, zero, suc, Bool, true, List, [], ◌∷◌, ◌++◌, map}
@@ -7,13 +7,13 @@ use Rattle.std.specs.Prelude.{slice_set}
 use Rattle.std.proofs.lemmas.List.{map-append}
 use Rattle.trdp_daemon.specs.News.{has_news, with_news}
 
--- where so many are there, there are news of each socket
+-- where that many are there, there are news of each socket
 pub each_there : (count socket : ℕ) → has_news (replicate count true) socket ≡ true
 each_there zero socket = refl
 each_there (suc count) zero = refl
 each_there (suc count) (suc socket) = each_there count socket
 
--- one more is noted behind the others
+-- one more is noted after the others
 noted_last : (told : List ℕ) (socket : ℕ) (news : List Bool)
     → with_news (told ++ socket ∷ []) news ≡ slice_set (with_news told news) socket true
 noted_last [] socket news = refl

@@ -1,6 +1,6 @@
--- What an event came to.
+-- The effect of an event.
 -- For `take_event` and `take_operator`, and for `lost_only_where_memory_is_taken`.
--- By cases: the node takes the event, refuses it, or has no memory for it.
+-- By cases: the node takes the event, rejects it, or is out of memory for it.
 use Rattle.std.proofs.Common.{◌≡◌, ℕ, List, [], Option, refl, sym, ◌∙◌, ap, subst}
 use Rattle.std.proofs.Common.{Bool, true, false, not, if◌then◌else◌, length}
 use Rattle.trdp_base.specs.declared.place.Place.{Place}
@@ -37,7 +37,7 @@ unfolding by_slot
 no_records records none =
     ap (λ rs. slots_from 0 (slots_end rs) rs) none ∙ from_zero 0 []
 
--- an event was taken, or refused, and its records were told
+-- an event was taken, or rejected, and its records were offered
 pub records_told : {W : Type 0} {takings_in : W → Option (List Taking)}
     {gives_in : W → Option (List Give)} {a b : Link W} (old new : Service)
     (event : EventModel) (contacts : List (Option Contact)) (records : List RecordModel)
@@ -66,7 +66,7 @@ pub comes_told : {W : Type 0} {takings_in : W → Option (List Taking)}
     → ComesWith takings_in gives_in old new a b (event_effect (service_state old) event)
 comes_told told = record { loss = TextsLost told.marks; comes = told.comes }
 
--- memory may be wanting for an event
+-- an event may need memory
 pub wanting : (node : NodeModel) (event : EventModel)
     → MayTakeMemory node event → is_reset event ≡ false → may_take_memory node event ≡ true
 unfolding may_take_memory
@@ -159,7 +159,7 @@ comes_lost {W} {takings_in} {gives_in} {a} {b} old new event may other lost = re
       lost;
 }
 
--- an event of the operator was taken, or refused, its records were told and it was answered
+-- an event of the operator was taken, or rejected, its records were offered and it was answered
 pub comes_answered : {W : Type 0} {takings_in : W → Option (List Taking)}
     {gives_in : W → Option (List Give)} {a b c : Link W} (old new : Service) (event : EventModel)
     (from : Place) (text : List ℕ)

@@ -139,7 +139,7 @@ stops_with calls a b (Ok x) fault same stop = absurd same
 stops_with calls a b (Err f) fault same stop =
     subst (λ (g : BindFault). StopsAtOne calls g a b) (sym same) stop
 
--- calls that were made, and those behind them
+-- calls that were made, and those after them
 pub made_behind : (before calls : List SocketCall) (fault : Option BindFault)
     (a b c : Option (List SocketCall))
     → TellsMore a b before → MadeInTurn calls fault b c → MadeInTurn (before ++ calls) fault a c

@@ -47,7 +47,7 @@ records_played old new records records_then event taken empty steps =
     (each_after old new records records_then event empty steps)))
     ∙ ap (λ fault. records_unless fault old event) (sym admitted)
 
--- an event that the node takes no notice of has no records
+-- an event that the node rejects has no records
 unless_refused :
     (fault : Option NodeFault) (refused : NodeFault) (node : NodeModel) (event : EventModel)
     → FaultIs fault (Err refused) → (refused ≡ OutOfMemory → ⊥)

@@ -1,6 +1,6 @@
 -- What arrives at a wire in memory.
 -- For `take_arrival`, `MemoryWire::arrive`, `take` and `rest`.
--- By induction on the arrivals: the first at that port stands where the search ends.
+-- By induction on the arrivals: the first at that port is where the search ends.
 use Rattle.std.proofs.Common.{◌≡◌, ◌<◌, ◌≤◌, ◌+◌, zero, suc, ℕ, Bool, true, false}
 use Rattle.std.proofs.Common.{cond, nat_lt, List, [], ◌∷◌, ◌++◌, Some, None, refl, sym}
 use Rattle.std.proofs.Common.{◌∙◌, ap, arith, length, map, take, get_or, length-append}
@@ -22,7 +22,7 @@ use Rattle.trdp_daemon.specs.Ports.{is_port}
 use Rattle.trdp_daemon.specs.Rows.{arrived_of, row_taking, nowhere, IsLaidDown, AreLaidDown}
 use Rattle.trdp_daemon.specs.Told.{Arrived, Nothing, Came, Taking, taking_at}
 
--- the first element that passes stands at the first index at which one does
+-- the first element that passes is at the first index at which one does
 found_none : {X : Type 0} (p : X → Bool) (xs : List X) → position p xs ≡ None → find p xs ≡ None
 found_none p xs none = by_test (nat_lt (position_or_len p xs) (length xs)) refl none
   where
@@ -52,7 +52,7 @@ found_below p xs i some = by_test (nat_lt (position_or_len p xs) (length xs)) re
         let below = ltb-true (position_or_len p xs) (length xs) is in omega (arith, at, below)
     by_test false is some = absurd (cc)
 
--- what stands at that index
+-- what is at that index
 pub element_found : {X : Type 0} (p : X → Bool) (xs : List X) (i : ℕ) (x : X)
     → position p xs ≡ Some i → x ≡ get_or xs i x → slice_get xs i ≡ Some x
 element_found {X} p xs i x some is = slice_get-get_or xs i x (found_below p xs i some)

@@ -1,6 +1,6 @@
 -- What was offered for records, one after another.
 -- For `tell_records`, `tell_record` and `tell_text`.
--- By: what is told of two things one after another is both, and silence adds nothing.
+-- By: what is offered for two things one after another is both, and silence adds nothing.
 use Rattle.std.proofs.Common.{◌≡◌, ◌+◌, ℕ, true, false, Bool, List, [], ◌∷◌}
 use Rattle.std.proofs.Common.{◌++◌, length, Option, Some, None, refl, sym}
 use Rattle.std.proofs.Common.{◌∙◌, ap, arith, append-nil, length-append, subst}
@@ -149,7 +149,7 @@ record_indicated {W} {takings_in} {gives_in} {a} {b} contacts r indication is to
           takings_in gives_in a b [] (content_telling contacts told.lost r x)) (sym is) told.carried;
     }
 
--- one more record is told
+-- one more record is offered
 pub tells_more : {W : Type 0} {takings_in : W → Option (List Taking)}
     {gives_in : W → Option (List Give)} {contacts : List (Option Contact)}
     {a b c : Link W} {rs : List RecordModel} {r : RecordModel}

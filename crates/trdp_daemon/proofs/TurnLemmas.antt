@@ -56,7 +56,7 @@ turns_append s (x ∷ xs) ys =
     ap (λ e. effect_of e.service (both first.telling e.telling)) later
     ∙ sym (then_assoc first (λ after. turns_effect after xs) (λ after. turns_effect after ys))
 
--- what comes to the same takes and effect
+-- what has the same takes and effect
 unfoldable comes_as : {W : Type 0} {takings_in : W → Option (List Taking)}
     {gives_in : W → Option (List Give)} {s t : Service} {a b : Link W} {ts us : List Taking}
     {e f : Effect} → Comes takings_in gives_in s t a b ts e → ts ≡ us → e ≡ f
@@ -66,7 +66,7 @@ comes_as p takes is = record {
   carried = carries_as p.carried takes (ap (λ e. e.telling) is);
 }
 
--- what comes one after another
+-- what happens one after another
 unfoldable pub comes_both : {W : Type 0} {takings_in : W → Option (List Taking)}
     {gives_in : W → Option (List Give)} {r s t : Service} {a b c : Link W}
     {ts us : List Taking} {e : Effect} (f : ServiceState → Effect)
@@ -119,7 +119,7 @@ visits_none takings_in gives_in s a = record {
   counted = tt;
 }
 
--- what a test has said of whether a port is there, and that port behind it
+-- what a test has said of whether a port is there, and that port after it
 abbrev pub Asked : NodeModel → Port → Port → Bool → Type 0
 Asked node asked port is = (port ≡ asked) × (is_there node port ≡ is)
 

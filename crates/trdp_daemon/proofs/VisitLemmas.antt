@@ -1,6 +1,6 @@
--- What a datagram at a port came to.
+-- The effect of a datagram at a port.
 -- For `Service::visit`, `take_datagram`, `take_operator` and `take_control`.
--- By cases on the port, and on whether its line was read, skipped or refused.
+-- By cases on the port, and on whether its line was read, skipped or rejected.
 use Rattle.std.proofs.Common.{◌≡◌, ℕ, Bool, true, List, [], ◌∷◌, Option, Some, None}
 use Rattle.std.proofs.Common.{Result, Ok, Err, refl, sym, ◌∙◌, ap, subst, length, map, take}
 use Rattle.std.specs.Prelude.{option_map}
@@ -223,7 +223,7 @@ at_telegram {W} {takings_in} {gives_in} {a} {b} old new totals protocol port kno
           (sym (same here.loss)) here.comes;
     })
 
--- what a telegram comes to at each of the network's ports
+-- the effect of a telegram at each of the network's ports
 pub pd_comes : (s : ServiceState) (totals : Totals) (from : Place) (bytes : List ℕ) (loss : Loss)
     → datagram_effect s totals Pd from bytes loss ≡ telegram_effect s PdData Pd from bytes loss
 unfolding datagram_effect
@@ -283,7 +283,7 @@ no_gives : (gives : List Give) → map (λ g. g.offer) gives ≡ [] → gives �
 no_gives [] none = refl
 no_gives (give ∷ gives) none = absurd (cc)
 
--- one take, and what came of it
+-- one take, and its effect
 visited : {W : Type 0} {takings_in : W → Option (List Taking)} {gives_in : W → Option (List Give)}
     {a b c : Link W} (old new : Service) (port : Port) (has_ended : Place → Bool) (found : Found)
     (room : List ℕ) → length room ≡ take_room

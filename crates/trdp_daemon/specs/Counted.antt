@@ -1,4 +1,4 @@
--- What was counted from take to take: the totals that each answer to the operator tells of.
+-- What was counted from take to take: the totals in each answer to the operator.
 use Rattle.std.specs.Prelude.{◌≡◌, List, [], ◌∷◌, length, take, drop}
 use Rattle.trdp_daemon.specs.declared.totals.Totals.{Totals}
 use Rattle.trdp_daemon.specs.Counting.{totals_after}
@@ -7,18 +7,18 @@ use Rattle.trdp_daemon.specs.Told.{Taking, Give}
 use Rattle.trdp_daemon.specs.Turns.{Visit, visit_effect, Turn, moment_effect, turn_effect}
 use Rattle.trdp_daemon.specs.Turns.{takings_of}
 
--- the totals after these takes and what they came to, where the first of the gives are those of
+-- the totals after these takes and this effect of them, where the first of the gives are those of
 -- what it offers
 abbrev pub counted_with : Totals → List Taking → Effect → List Give → Totals
 counted_with totals takings effect gives =
     totals_after totals takings (take (length effect.telling.offers) gives) effect.telling.missed
 
--- the gives behind them
+-- the gives after them
 abbrev pub gives_behind : Effect → List Give → List Give
 gives_behind effect gives = drop (length effect.telling.offers) gives
 
--- from these totals on, with these gives, each take was answered when that much was counted, the
--- take itself with it
+-- from these totals on, with these gives, each take was answered when that much was counted, that
+-- take included
 abbrev pub VisitsCounted : Totals → ServiceState → List Visit → List Give → Type 0
 VisitsCounted totals service [] gives = Unit {0}
 VisitsCounted totals service (visit ∷ visits) gives =
@@ -27,7 +27,7 @@ VisitsCounted totals service (visit ∷ visits) gives =
     × VisitsCounted (counted_with totals (visit.taking ∷ []) effect gives) effect.service visits
     (gives_behind effect gives)
 
--- the same of a turn's takes, behind its moment
+-- the same of a turn's takes, after its moment
 abbrev pub TurnCounted : Totals → ServiceState → Turn → List Give → Type 0
 TurnCounted totals service turn gives =
     let moment = moment_effect service turn in

@@ -4,7 +4,7 @@ use Rattle.std.specs.Prelude.{false}
 use Rattle.trdp_daemon.specs.declared.totals.Totals.{Totals}
 use Rattle.trdp_daemon.specs.Told.{Arrived, Failed, Nothing, Came, Taking, Give}
 
--- a count after so many more, one by one; it stops at 2^64 - 1
+-- a count that is that much higher, one by one; it stops at 2^64 - 1
 abbrev pub counted : ℕ → ℕ → ℕ
 counted n zero = n
 counted n (suc more) = counted (min (n + 1) (2 ^ 64 - 1)) more
@@ -37,7 +37,7 @@ unread_in takings = length (filter (λ t. has_failed t.arrived) takings)
 abbrev pub lost_in : List Give → ℕ
 lost_in gives = length (filter (λ g. g.failed) gives)
 
--- the totals after these takes and gives, and so many entries that were lost for want of memory
+-- the totals after these takes and gives, with that many entries lost where an allocation failed
 abbrev pub totals_after : Totals → List Taking → List Give → ℕ → Totals
 totals_after totals takings gives missed = record {
   taken = counted totals.taken (datagrams_in takings);

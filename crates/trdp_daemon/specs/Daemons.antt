@@ -1,4 +1,4 @@
--- A daemon, and what its turns make of it.
+-- A daemon, and what its turns do to it.
 use Rattle.std.specs.Prelude.{◌≡◌, ℕ, List, Option, length, map}
 use Rattle.std.specs.List.{flat_map}
 use Rattle.trdp_dataset.specs.Configs.{ConfigModel}
@@ -31,9 +31,9 @@ opened_daemon config lease wire clock = record {
 }
 
 -- n turns were taken, each with one reading of the clock and one take at each port that is there,
--- in order: the gives are exactly what the turns offer, whatever they answered, and an answer to
--- the operator tells of the totals as they were at its take; the wire tells its takes and gives,
--- and the clock its readings, by these functions
+-- in order. The gives are exactly what the turns offer, whatever they answered. An answer to the
+-- operator has the totals as they were at its take. The wire reports its takes and gives, and the
+-- clock its readings, by these functions
 pub record TakesTurns {W C : Type 0} (takings_in : W → Option (List Taking))
     (gives_in : W → Option (List Give)) (readings_in : C → Option (List ℕ)) (n : ℕ)
     (old new : DaemonState W C) : Type 0 where
@@ -53,11 +53,11 @@ pub record TakesTurns {W C : Type 0} (takings_in : W → Option (List Taking))
   pub counted : TurnsCounted old.totals old.service turns gives
 
 -- a daemon of this configuration and lease has taken n turns since it was made with this wire and
--- clock, each with one reading of the clock and one take at each port that is there, in order: the
--- list of its offers is that of these turns, whatever the gives answered, an answer to the operator
--- tells of the totals as they were at its take, and its totals count the datagrams that came, the
--- gives, those that failed, the takes that failed, and the entries that were lost for want of
--- memory
+-- clock, each with one reading of the clock and one take at each port that is there, in order. The
+-- list of its offers is that of these turns, whatever the gives answered. An answer to the
+-- operator has the totals as they were at its take. Its totals count the datagrams that came, the
+-- gives, those that failed, the takes that failed, and the entries that were lost where an
+-- allocation failed
 pub record HasServed {W C : Type 0} (takings_in : W → Option (List Taking))
     (gives_in : W → Option (List Give)) (readings_in : C → Option (List ℕ))
     (config : ConfigModel) (lease : Option ℕ) (wire : W) (clock : C) (n : ℕ)

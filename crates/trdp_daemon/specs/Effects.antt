@@ -1,5 +1,5 @@
--- What one event gives: the datagrams that are offered, and the entries that are lost for want of
--- memory.
+-- What one event gives: the datagrams that are offered, and the entries that are lost where an
+-- allocation fails.
 use Rattle.std.specs.Prelude.{ℕ, suc, ◌+◌, List, [], ◌∷◌, ◌++◌, Bool, true, false, length}
 use Rattle.std.specs.Prelude.{Option, Some, None, option_map, slice_index_or, slice_set, nat_lt}
 use Rattle.std.specs.Prelude.{not}
@@ -26,7 +26,7 @@ use Rattle.trdp_daemon.specs.declared.port.Port.{Port}
 use Rattle.trdp_daemon.specs.declared.port.Port.TheVariants.{Pd, Md, Control}
 use Rattle.trdp_daemon.specs.Told.{Offer, offer_to}
 
--- what is offered, and how many entries were lost for want of memory
+-- what is offered, and how many entries were lost where an allocation failed
 pub record Telling : Type 0 where
   pub offers : List Offer
   pub missed : ℕ
@@ -48,7 +48,7 @@ both first second =
     record { offers = first.offers ++ second.offers; missed = first.missed + second.missed }
 
 -- a text of a slot goes from its control port to the slot's control place; without one it is
--- dropped; a text that found no memory is lost
+-- dropped; a text for which an allocation failed is lost
 unfoldable pub text_telling : ℕ → Option Place → Bool → List ℕ → Telling
 text_telling slot None lost text = silence
 text_telling slot (Some to) true text = missing
@@ -63,7 +63,7 @@ port_of MdData = Md
 abbrev pub contact_of : List (Option Contact) → ℕ → Option Contact
 contact_of contacts slot = slice_index_or contacts slot None
 
--- the latest line of a slot, had it come in the turn of this reading
+-- the latest line of a slot, as if it had come in the turn of this reading
 abbrev pub read_again : ℕ → Contact → Contact
 read_again reading contact = record contact { reading = reading }
 
@@ -88,7 +88,7 @@ abbrev pub is_first_lost : List Bool → Bool
 is_first_lost [] = false
 is_first_lost (lost ∷ marks) = lost
 
--- the marks of the records behind the first
+-- the marks of the records after the first
 abbrev pub later_marks : List Bool → List Bool
 later_marks [] = []
 later_marks (lost ∷ marks) = marks
@@ -109,7 +109,7 @@ slots_records setup g event s (slot ∷ slots) =
     labelled s (records_after setup s slot g event)
     ++ slots_records setup g event (suc s) slots
 
--- the records of an event with this fault, which the node takes no notice of, or with none
+-- the records of an event with this fault, which the node rejects, or with none
 abbrev pub records_unless : Option NodeFault → NodeModel → EventModel → List RecordModel
 records_unless (Some fault) node event = []
 records_unless None node event =
@@ -121,9 +121,9 @@ abbrev pub event_records : NodeModel → EventModel → List RecordModel
 event_records node event =
     records_unless (refused_as (length node.slots) node.globals event) node event
 
--- a node, the latest line of each of the slots that it may have, none before the first, the reading
--- of the clock of the latest turn, 0 before the first, and the lease: how many microseconds the
--- application of a slot may be silent, if that has a bound
+-- a node; the latest line of each of the slots that it may have, none before the first or once it
+-- was forgotten; the reading of the clock of the latest turn, 0 before the first. The lease is how
+-- many microseconds the application of a slot may be silent, none if that has no bound
 pub record ServiceState : Type 0 where
   pub node : NodeModel
   pub contacts : List (Option Contact)
@@ -135,10 +135,10 @@ abbrev pub with_contact : ServiceState → ℕ → Option Contact → ServiceSta
 with_contact service slot contact =
     record service { contacts = slice_set service.contacts slot contact }
 
--- what was lost for want of memory of a reading of the clock or of a datagram
+-- what was lost of a reading of the clock or of a datagram, where an allocation failed
 pub data Loss : Type 0 where
   LineLost : Loss  -- it wasn't read as a line, where that carries bytes
-  EventLost : Loss  -- it was read, and the node didn't take it, where memory may be wanting
+  EventLost : Loss  -- it was read, and the node didn't take it, where it may need memory
   TextsLost : (marks : List Bool) → Loss  -- the texts of those of its records
 
 -- the texts that were lost, where the event was taken
@@ -147,7 +147,7 @@ texts_lost LineLost = []
 texts_lost EventLost = []
 texts_lost (TextsLost marks) = marks
 
--- where a service comes to, and what it tells
+-- the service after an effect, and what was offered and lost by it
 pub record Effect : Type 0 where
   pub service : ServiceState
   pub telling : Telling
@@ -156,7 +156,7 @@ pub record Effect : Type 0 where
 abbrev pub still : ServiceState → Effect
 still service = record { service = service; telling = silence }
 
--- something is told, and nothing else happens
+-- something is offered or lost, and nothing else happens
 abbrev pub telling_only : ServiceState → Telling → Effect
 telling_only service telling = record { service = service; telling = telling }
 
@@ -167,14 +167,14 @@ then_effect first next = record {
   telling = both first.telling (next first.service).telling;
 }
 
--- a call by which a slot begins anew
+-- a call that resets a slot
 abbrev pub is_reset : EventModel → Bool
 is_reset (CallIs s ResetCall) = true
 is_reset event = false
 
--- whether memory may be wanting for an event: a call but one by which a slot begins anew, for whose
--- answer there is room from the start; a moment by which something is due, a datagram that concerns
--- a slot, the opening of a slot
+-- whether an event may need memory: a call but a reset, for whose answer there is room from the
+-- start; a moment at which something is due; a datagram that concerns a slot; the opening of a
+-- slot
 unfoldable pub may_take_memory : NodeModel → EventModel → Bool
 may_take_memory node (MomentIs t) = nat_lt 0 (due_in t node.slots)
 may_take_memory node (TopologyIs topo) = false
@@ -184,12 +184,12 @@ may_take_memory node (DatagramIs protocol src dst bytes) =
 may_take_memory node (CallIs s call) = not (is_reset (CallIs s call))
 may_take_memory node (AddSlotIs quotas) = true
 
--- an event is lost where memory may be wanting for it; elsewhere it comes to this effect
+-- an event is lost where it may need memory; elsewhere it has this effect
 abbrev pub lost_or : ServiceState → EventModel → Effect → Effect
 lost_or service event effect =
     if may_take_memory service.node event then telling_only service missing else effect
 
--- the node takes an event, and tells its records, but for the texts that are marked as lost
+-- the node takes an event, and its records are offered, but for the texts that are marked as lost
 abbrev pub event_taken : ServiceState → EventModel → List Bool → Effect
 event_taken service event marks = record {
   service = record service { node = node_after service.node event };

@@ -8,9 +8,10 @@ use Rattle.trdp_daemon.specs.declared.port.Port.TheVariants.{Operator, Control}
 use Rattle.trdp_daemon.specs.Effects.{ServiceState, Effect, Loss, contact_of, event_effect, still}
 use Rattle.trdp_daemon.specs.Effects.{with_contact}
 
--- whether a lease has run out behind the latest line of a slot by this reading of the clock: the
--- line came more than so many microseconds before. It never does where there is no lease, nor where
--- there was no line
+-- whether a lease has run out after the latest line of a slot by this reading of the clock: the
+-- line came more than that many microseconds before. It never does where there is no lease, nor
+-- where there was no line
+-- rule: slot.lease
 unfoldable pub has_run_out : Option ℕ → ℕ → Option Contact → Bool
 has_run_out None reading contact = false
 has_run_out (Some lease) reading None = false
@@ -25,18 +26,20 @@ is_silent service slot =
 abbrev pub forgotten : ServiceState → ℕ → ServiceState
 forgotten service slot = with_contact service slot None
 
--- a slot begins anew whose application has ended. Its latest line is forgotten before, so that
--- nobody is told, and no lease runs out for it before its next line
+-- the reset of a slot whose application has ended. Its latest line is forgotten before, so that
+-- the reset is reported to no one, and no lease runs out for it before its next line
+-- rule: slot.end
 abbrev pub end_effect : ServiceState → ℕ → Loss → Effect
 end_effect service slot loss =
     event_effect (forgotten service slot) (CallIs slot ResetCall) loss
 
 -- the same where the lease has run out for a slot
+-- rule: slot.silence
 abbrev pub silence_effect : ServiceState → ℕ → Loss → Effect
 silence_effect service slot loss =
     if is_silent service slot then end_effect service slot loss else still service
 
--- what a take comes to that found nothing: a slot's application may have been silent for too long
+-- the effect of a take that found nothing: a slot's application may have been silent for too long
 unfoldable pub quiet_effect : ServiceState → Port → Loss → Effect
 quiet_effect service Pd loss = still service
 quiet_effect service Md loss = still service
@@ -45,7 +48,7 @@ quiet_effect service (MdGroup group) loss = still service
 quiet_effect service Operator loss = still service
 quiet_effect service (Control slot) loss = silence_effect service slot loss
 
--- what a take comes to that handed in the end of an application: at a control port that slot's has
+-- the effect of a take that handed in the end of an application: at a control port that slot's has
 -- ended; at the others there is none
 unfoldable pub ended_effect : ServiceState → Port → Loss → Effect
 ended_effect service Pd loss = still service

@@ -5,7 +5,7 @@ use Rattle.trdp_daemon.specs.Told.{TellsMore, Taking, Give}
 use Rattle.trdp_daemon.specs.Counting.{totals_after}
 use Rattle.trdp_daemon.specs.Effects.{Telling}
 
--- these takes were made, all of this was offered, and nothing else; the wire tells its takes and
+-- these takes were made, all of this was offered, and nothing else; the wire reports its takes and
 -- gives by these functions
 pub record Carries {W : Type 0} (takings_in : W → Option (List Taking))
     (gives_in : W → Option (List Give)) (old new : Link W) (takings : List Taking)

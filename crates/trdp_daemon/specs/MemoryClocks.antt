@@ -15,11 +15,11 @@ abbrev pub readings_first : List ℕ → ℕ → List ℕ
 readings_first moments zero = []
 readings_first moments (suc n) = readings_first moments n ++ reading_at moments n ∷ []
 
--- what a clock tells of its sleeps
+-- what a clock reports of its sleeps
 abbrev pub told_sleeps : MemoryClock → Option (List ℕ)
 told_sleeps clock = told clock.tells_sleeps clock.sleeps.items
 
--- what it tells of its readings
+-- what it reports of its readings
 abbrev pub told_readings : MemoryClock → Option (List ℕ)
 told_readings clock =
     if clock.tells then Some (readings_first clock.moments.items clock.count) else None

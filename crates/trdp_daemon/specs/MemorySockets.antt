@@ -28,11 +28,11 @@ abbrev pub give_fault : Option Ip → Ip → Option SocketFault
 give_fault None ip = None
 give_fault (Some far) ip = no_way_if (far.0 == ip.0)
 
--- what they tell
+-- what they report
 abbrev pub told_calls : MemorySockets → Option (List SocketCall)
 told_calls sockets = told sockets.tells (map call_of sockets.rows.items)
 
--- this is remembered too; nothing is told where there was no memory for it
+-- this is remembered too; nothing is reported where an allocation for it failed
 abbrev pub Notes : Result SocketRow AllocError → Option (List SocketCall)
     → Option (List SocketCall) → Type 0
 Notes (Ok r) old new = TellsMore old new (call_of r ∷ [])

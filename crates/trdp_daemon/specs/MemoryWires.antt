@@ -1,4 +1,4 @@
--- A wire in memory: what was laid down for it, and what its calls make of that.
+-- A wire in memory: what was laid down for it, and what its calls do with that.
 use Rattle.std.specs.Prelude.{ℕ, ◌+◌, ◌-◌, ◌^◌, ◌==◌, ◌&&◌, ◌||◌, nat_lt, List, [], ◌∷◌, ◌++◌}
 use Rattle.std.specs.Prelude.{Bool, false, if◌then◌else◌, Option, Some, None}
 use Rattle.std.specs.Prelude.{take, drop, length}
@@ -27,9 +27,9 @@ pub record LaidDown : Type 0 where
   pub failing_takes : List ℕ
   pub failing_gives : List ℕ
 
--- a wire in memory: what was laid down, its takes, gives and rests within its rooms, whether it
--- tells takes and gives, how often it failed, the latest give that it refused, and how many more
--- takes, gives, bytes of gives and rests find room
+-- a wire in memory: what was laid down, and its takes, gives and rests within its rooms; whether
+-- it reports takes and gives. Then how often it failed, the latest give that it refused, and how
+-- many more takes, gives, bytes of gives and rests have room
 pub record MemoryWireState : Type 0 where
   pub laid_down : LaidDown
   pub takings : List Taking
@@ -64,7 +64,7 @@ with_failing_give wire number = record wire {
       record wire.laid_down { failing_gives = wire.laid_down.failing_gives ++ number ∷ [] };
 }
 
--- a list, where it is told
+-- a list, where it is reported
 abbrev pub told : {X : Type 0} → Bool → List X → Option (List X)
 told tells xs = if tells then Some xs else None
 
@@ -80,16 +80,16 @@ takes_at port takings = count_by (λ taking. is_port taking.port port) takings
 abbrev pub arrives_at : Port → ℕ → ArrivalModel → Bool
 arrives_at port number arrival = is_port arrival.port port && arrival.at_take == number
 
--- what arrives, cut to a room of so many bytes
+-- what arrives, cut to a room of that many bytes
 abbrev pub cut_to : ℕ → Option ArrivalModel → Arrived
 cut_to room None = Nothing
 cut_to room (Some arrival) = Came arrival.from (take room arrival.bytes)
 
--- a wire that fails says so, unless the count of its failures is at its last value
+-- a wire that fails reports that, unless the count of its failures is at its last value
 unfoldable pub failure_after : ℕ → Arrived
 failure_after failures = if nat_lt failures (2 ^ 64 - 1) then Failed else Nothing
 
--- what a take at a port gives that isn't to fail: what was laid down for it, the first of several
+-- what a take at a port that isn't to fail gives: what was laid down for it, the first of several
 unfoldable pub arrival_for : List ArrivalModel → Port → ℕ → ℕ → Arrived
 arrival_for arrivals port number room = cut_to room (find (arrives_at port number) arrivals)
 
@@ -98,7 +98,7 @@ unfoldable pub next_take_fails : MemoryWireState → Bool
 next_take_fails wire = wire.take_room == 0
     || is_failing wire.laid_down.failing_takes (length wire.takings + 1)
 
--- what the next take at a port answers, into a room of so many bytes
+-- what the next take at a port answers, into a room of that many bytes
 unfoldable pub next_arrival : MemoryWireState → Port → ℕ → Arrived
 next_arrival wire port room =
     if next_take_fails wire then failure_after wire.failures
@@ -110,12 +110,12 @@ room_after Failed room = room
 room_after Nothing room = room
 room_after (Came from bytes) room = bytes ++ drop (length bytes) room
 
--- whether the next give, of so many bytes, is beyond the wire's rooms
+-- whether the next give, of that many bytes, is beyond the wire's rooms
 unfoldable pub is_give_beyond : MemoryWireState → ℕ → Bool
 is_give_beyond wire bytes = wire.give_room == 0 || nat_lt wire.byte_room bytes
 
--- whether the next give, of so many bytes, fails: it is beyond the wire's rooms, or was laid down
--- to fail; unless the count of failures is at its last value
+-- whether the next give, of that many bytes, fails: it is beyond the wire's rooms, or was laid
+-- down to fail; unless the count of failures is at its last value
 unfoldable pub next_give_fails : MemoryWireState → ℕ → Bool
 next_give_fails wire bytes = nat_lt wire.failures (2 ^ 64 - 1)
     && (is_give_beyond wire bytes
@@ -125,7 +125,8 @@ next_give_fails wire bytes = nat_lt wire.failures (2 ^ 64 - 1)
 unfoldable pub one_more_if : Bool → ℕ → ℕ
 one_more_if more n = if more then n + 1 else n
 
--- a wire after a take; beyond its room it isn't remembered, and the wire tells nothing from then on
+-- a wire after a take; beyond its room it isn't remembered, and the wire reports nothing from then
+-- on
 unfoldable pub after_take : MemoryWireState → Taking → MemoryWireState
 after_take wire taking = if wire.take_room == 0
     then record wire {
@@ -143,8 +144,8 @@ abbrev pub refusal_behind : MemoryWireState → Give → Option Refusal
 refusal_behind wire give =
     refusal_after give.offer.port give.offer.to (no_way_if give.failed) wire.refusal
 
--- a wire after a give; beyond its rooms it isn't remembered, and the wire tells nothing from then
--- on
+-- a wire after a give; beyond its rooms it isn't remembered, and the wire reports nothing from
+-- then on
 unfoldable pub after_give : MemoryWireState → Give → MemoryWireState
 after_give wire give = if is_give_beyond wire (length give.offer.bytes)
     then record wire {

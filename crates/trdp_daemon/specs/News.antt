@@ -1,10 +1,11 @@
--- At which sockets something may be: where the system has told news since a take found nothing.
+-- At which sockets something may be: where the system has reported news since a take found
+-- nothing.
 use Rattle.std.specs.Prelude.{◌≡◌, ℕ, List, [], ◌∷◌, Bool, true, false, if◌then◌else◌}
 use Rattle.std.specs.Prelude.{slice_index_or, slice_set, Option, Some, None}
 use Rattle.trdp_daemon.specs.Sockets.{SocketCall, Waits}
 use Rattle.trdp_daemon.specs.Told.{TellsMore}
 
--- whether there are news of a socket; there always are of one of which none are kept
+-- whether there are news of a socket; always true of one of which none are kept
 abbrev pub has_news : List Bool → ℕ → Bool
 has_news news socket = slice_index_or news socket true
 
@@ -13,11 +14,11 @@ abbrev pub with_news : List ℕ → List Bool → List Bool
 with_news [] news = news
 with_news (socket ∷ told) news = with_news told (slice_set news socket true)
 
--- the news behind a take at a socket that found something or not
+-- the news after a take at a socket that found something or not
 abbrev pub news_after : Bool → ℕ → List Bool → List Bool
 news_after found socket news = if found then news else slice_set news socket false
 
--- one wait was made, of so many milliseconds, and what it told are news
+-- one wait was made, of that many milliseconds, and what it reported are news
 pub record WaitsForNews (millis : ℕ) (calls calls_then : Option (List SocketCall))
     (news news_then : List Bool) : Type 0 where
   pub told : List ℕ

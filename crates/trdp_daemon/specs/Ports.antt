@@ -27,8 +27,9 @@ control_ports s [] = []
 control_ports s (number ∷ numbers) =
     port_unless_0 number (Control s) ++ control_ports (suc s) numbers
 
--- the numbers of the slots' control ports, and behind them the spare ones, which are for the slots
+-- the numbers of the slots' control ports, and after them the spare ones, which are for the slots
 -- that are added
+-- rule: slot.port
 abbrev pub control_numbers : ConfigModel → List ℕ
 control_numbers config =
     map (λ slot. slot.control_port) config.slots ++ config.spare_control_ports
@@ -53,7 +54,7 @@ line_ports config =
 unfoldable pub ports_of : ConfigModel → List Port
 ports_of config = network_ports config ++ line_ports config
 
--- the place of a group's address and a port of that number
+-- the socket address of a group's address and a port of that number
 abbrev pub group_place : ℕ → ℕ → Place
 group_place group port = record { ip = record { 0 = group }; port = port }
 
@@ -64,9 +65,9 @@ own_place config port = record { ip = record { 0 = config.address }; port = port
 abbrev pub control_place : ConfigModel → ℕ → Place
 control_place config port = record { ip = record { 0 = config.control_address }; port = port }
 
--- where the socket of a port is bound, and so where the datagrams go to that come there: those of
--- process data and message data at the node's address or at a group's, the others at its control
--- address; number 0 for a slot that the configuration names no control port for
+-- where the socket of a port is bound, and so where the datagrams go to that come there. Those of
+-- process data and message data are at the node's address or at a group's, the others at its
+-- control address; number 0 for a slot that the configuration names no control port for
 abbrev pub place_of_port : ConfigModel → Port → Place
 place_of_port config Pd = own_place config config.pd_port
 place_of_port config Md = own_place config config.md_port

@@ -17,7 +17,7 @@ use Rattle.trdp_daemon.specs.Effects.{ServiceState, contact_of}
 abbrev pub answer_room : ℕ
 answer_room = 1472
 
--- what is told of a daemon's totals, without the end of the line
+-- the answer about a daemon's totals, without the end of the line
 abbrev pub text_of_totals : Totals → List ℕ
 text_of_totals totals =
     codes "taken " ++ text_of_number totals.taken
@@ -30,7 +30,7 @@ text_of_totals totals =
 abbrev pub slot_numbered : List SlotState → ℕ → SlotState
 slot_numbered slots s = slice_index_or slots s (empty_slot [])
 
--- how many objects of a kind a slot has, and how many it may have, behind a space
+-- how many objects of a kind a slot has, and how many it may have, after a space
 unfoldable pub text_of_usage : SlotState → Kind → List ℕ
 text_of_usage slot kind =
     codes " " ++ text_of_number (kind_count kind slot.objects)
@@ -43,8 +43,8 @@ text_of_usages slot =
     ++ text_of_usage slot Requester ++ text_of_usage slot Listener
     ++ text_of_usage slot Caller ++ text_of_usage slot Replier
 
--- how many microseconds before this reading of the clock a slot had its latest line, 0 where it was
--- not before; `-` where it had none
+-- how many microseconds before this reading of the clock a slot had its latest line, 0 where that
+-- came later; `-` where it had none
 unfoldable pub text_of_age : ℕ → Option Contact → List ℕ
 text_of_age reading None = codes "-"
 text_of_age reading (Some contact) = text_of_number (reading - contact.reading)
@@ -62,6 +62,7 @@ text_of_slots reading contacts s (slot ∷ slots) =
     text_of_slot reading contacts s slot ++ text_of_slots reading contacts (suc s) slots
 
 -- the answer to a question, where these are the totals
+-- rule: control.question
 unfoldable pub text_of_question : ServiceState → Totals → Question → List ℕ
 text_of_question service totals question.Totals = text_of_totals totals ++ codes "\n"
 text_of_question service totals question.Slots =

@@ -5,7 +5,7 @@ use Rattle.trdp_daemon.specs.declared.port.Port.{Port}
 use Rattle.trdp_daemon.specs.declared.refusal.Refusal.{Refusal}
 use Rattle.trdp_daemon.specs.declared.socket_fault.SocketFault.{SocketFault}
 
--- the latest refusal behind a give at a port, for a place, that came to this fault or to none
+-- the latest refusal after a give at a port, for a place, which had this fault or none
 abbrev pub refusal_after : Port → Place → Option SocketFault → Option Refusal → Option Refusal
 refusal_after port to None refusal = refusal
 refusal_after port to (Some fault) refusal =

@@ -1,4 +1,4 @@
--- What a rest of the resting wire comes to.
+-- What a rest of the resting wire does.
 use Rattle.std.specs.Prelude.{◌≡◌, ℕ, zero, suc, ◌+◌, ◌-◌, ◌/◌, nat_lt, List, [], ◌∷◌}
 use Rattle.std.specs.Prelude.{Bool, true, false, if◌then◌else◌, Option, Some, None}
 use Rattle.trdp_daemon.specs.declared.rest_step.RestStep.{RestStep}
@@ -10,35 +10,35 @@ abbrev pub busy_step : Bool → RestStep
 busy_step true = GoOn
 busy_step false = Look
 
--- a rest of at most so many microseconds: a wait of whole milliseconds, which ends some 200
+-- a rest of at most that many microseconds: a wait of whole milliseconds, which ends some 200
 -- microseconds early, as the system comes late; a sleep where no millisecond is left
 abbrev pub idle_step : ℕ → RestStep
 idle_step most =
     if nat_lt (most - 200) 1000 then Sleep most else Wait ((most - 200) / 1000)
 
--- the step of a rest of at most so many microseconds, where something was heard since the rest
+-- the step of a rest of at most that many microseconds, where something was heard since the rest
 -- before or not, and a turn without a rest goes on or not
 unfoldable pub step_of : (heard : Bool) → ℕ → (goes_on : Bool) → RestStep
 step_of true most goes_on = busy_step goes_on
 step_of false zero goes_on = busy_step goes_on
 step_of false (suc n) goes_on = idle_step (suc n)
 
--- whether a step is a rest: the first turn without one goes on behind it
+-- whether a step is a rest: the first turn without one goes on after it
 abbrev pub is_rest : RestStep → Bool
 is_rest GoOn = false
 is_rest Look = false
 is_rest (Sleep micros) = true
 is_rest (Wait millis) = true
 
--- how many milliseconds the system is asked for news, if it is
+-- how many milliseconds the system is asked for news; none where it isn't asked
 abbrev pub wait_in : RestStep → Option ℕ
 wait_in GoOn = None
 wait_in Look = Some 0
 wait_in (Sleep micros) = Some 0
 wait_in (Wait millis) = Some millis
 
--- whether there was no rest for 50 milliseconds up to this reading: since the turn that first asked
--- for news behind the latest rest
+-- whether there was no rest for 50 milliseconds up to this reading: since the turn that first
+-- asked for news after the latest rest, or after the latest sleep for being busy
 unfoldable pub is_breathless : Option ℕ → ℕ → Bool
 is_breathless None reading = false
 is_breathless (Some since) reading = nat_lt (since + 49_999) reading
@@ -54,8 +54,8 @@ busy_after true busy reading = None
 busy_after false None reading = Some reading
 busy_after false (Some since) reading = Some since
 
--- how much is left of a rest of at most so many microseconds that begins at this reading: all of it
--- before the first; behind another, whose end this was, what the turn between them hasn't used
+-- what is left of a rest of at most that many microseconds that begins at this reading: all of it
+-- before the first; after another, whose end this was, what the turn between them hasn't used
 abbrev pub rest_left : Option ℕ → (began most : ℕ) → ℕ
 rest_left None began most = most
 rest_left (Some ended) began most = most - (began - ended)
@@ -67,7 +67,7 @@ Breathes reading sleeps sleeps_then busy busy_then =
     TellsMore sleeps sleeps_then (breath (is_breathless busy reading))
     × (busy_then ≡ busy_after (is_breathless busy reading) busy reading)
 
--- what a step of a rest that begins at this reading sleeps
+-- how long a step of a rest that begins at this reading sleeps
 abbrev pub PausesSo : RestStep → (reading : ℕ) → (sleeps sleeps_then : Option (List ℕ))
     → (busy busy_then : Option ℕ) → Type 0
 PausesSo GoOn reading sleeps sleeps_then busy busy_then =

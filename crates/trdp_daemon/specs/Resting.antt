@@ -9,7 +9,8 @@ use Rattle.trdp_daemon.specs.Told.{Taking, Give}
 use Rattle.trdp_daemon.specs.Turns.{Turn}
 use Rattle.trdp_daemon.specs.Daemons.{DaemonState, TakesTurns, HasServed}
 
--- the moment at which a rest ends at the latest: the next one at which something is due, or `until`
+-- the moment at which a rest ends at the latest: the next one at which something is due, or
+-- `until`
 abbrev pub rest_end : ℕ → Option ℕ → ℕ
 rest_end until None = until
 rest_end until (Some due) = min due until
@@ -52,7 +53,7 @@ pub record TurnsAndRests {W C : Type 0} (takings_in : W → Option (List Taking)
   pub turn : TakesTurnAt takings_in gives_in readings_in reading old turned
   pub rest : Rests takings_in gives_in reading until turned new
 
--- n such turns, with a rest behind each
+-- n such turns, with a rest after each
 abbrev pub RestsBehind : {W C : Type 0} → (W → Option (List Taking)) → (W → Option (List Give))
     → (C → Option (List ℕ)) → ℕ → ℕ → DaemonState W C → DaemonState W C → Type 0
 RestsBehind takings_in gives_in readings_in until zero old new = new ≡ old
@@ -88,7 +89,7 @@ abbrev pub last_reading : List Turn → ℕ
 last_reading turns = reading_behind 0 turns
 
 -- turns were taken until one began at the reading `until` of the clock or later, that one too; or
--- 2^64 - 1 of them, all of which began before. Behind each but that one the wire was asked for a
+-- 2^64 - 1 of them, all of which began before. After each but that one the wire was asked for a
 -- rest. The last turn began at `reading`
 pub record AttendsUntil {W C : Type 0} (takings_in : W → Option (List Taking))
     (gives_in : W → Option (List Give)) (readings_in : C → Option (List ℕ)) (until reading : ℕ)

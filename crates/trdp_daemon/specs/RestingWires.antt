@@ -1,4 +1,4 @@
--- What a wire that rests makes of a take and of a rest.
+-- What a wire that rests does at a take and at a rest.
 use Rattle.std.specs.Prelude.{◌≡◌, ℕ, List, [], ◌∷◌, Bool, true, false, ◌||◌}
 use Rattle.std.specs.Prelude.{Option, Some, None, Result, Ok}
 use Rattle.trdp_base.specs.declared.place.Place.{Place}
@@ -32,8 +32,8 @@ TakesIfNews true calls_of old new port room result =
     TakesAtNews calls_of old new port room result
 TakesIfNews false calls_of old new port room result = (result ≡ Ok None) × (new ≡ old)
 
--- a rest of at most so many microseconds: its step is that of what is left of it, and the clock is
--- read where it begins and where it ends
+-- a rest of at most that many microseconds: its step is that of what is left of it, and the clock
+-- is read where it begins and where it ends
 pub record RestsSo {S C : Type 0} (calls_of : S → Option (List SocketCall))
     (readings_of sleeps_of : C → Option (List ℕ)) (old new : RestingWire S C) (most : ℕ)
     : Type 0 where

@@ -40,7 +40,7 @@ AreLaidDown n (row ∷ rows) = IsLaidDown n row.answer × AreLaidDown n rows
 abbrev pub row_give : GiveRow → List ℕ → Give
 row_give row bytes = record { offer = offer_to row.port row.to bytes; failed = row.failed }
 
--- the gives of rows whose bytes lie one after the other
+-- the gives of rows whose bytes are joined in order
 abbrev pub gives_of : List ℕ → List GiveRow → List Give
 gives_of bytes [] = []
 gives_of bytes (row ∷ rows) =

@@ -1,27 +1,27 @@
--- How a clock that runs makes numbers of moments.
+-- How a clock that runs makes numbers of times.
 use Rattle.std.specs.Prelude.{◌≡◌, ℕ, ◌-◌, ◌/◌, ◌^◌, min, Option, Some, None}
 use Rattle.std.specs.Time.{instant_nanos}
 use Rattle.std.specs.declared.time.Instant.{Instant}
 use Rattle.trdp_daemon.specs.declared.run_clock.MomentCount.{MomentCount}
 
--- whole microseconds from one moment to another, at most 2^64 - 1; 0 where the other is earlier
+-- whole microseconds from one time to another, at most 2^64 - 1; 0 where the other is earlier
 abbrev pub micros_between : Instant → Instant → ℕ
 micros_between start moment =
     min ((instant_nanos moment - instant_nanos start) / 1000) (2 ^ 64 - 1)
 
--- the first moment that was told, after a reading that was told this one, or none
+-- the first time that a clock gave, after a reading that gave this one, or none
 abbrev pub start_after : Option Instant → Option Instant → Option Instant
 start_after (Some start) moment = Some start
 start_after None moment = moment
 
--- the number of a reading that was told this moment, or none: the microseconds since the first
--- moment; the number before, at first 0, where no moment is told, and at the first one
+-- the number of a reading that gave this time, or none: the microseconds since the first time; the
+-- number before, at first 0, where it gave none, and at the first one
 abbrev pub number_after : Option Instant → ℕ → Option Instant → ℕ
 number_after (Some start) last (Some moment) = micros_between start moment
 number_after (Some start) last None = last
 number_after None last moment = last
 
--- a reading was told this moment, or none, and gave this number
+-- a reading gave this time, or none, and made this number
 pub record Reads (old new : MomentCount) (moment : Option Instant) (number : ℕ) : Type 0 where
   pub start : new.start ≡ start_after old.start moment
   pub last : new.last ≡ number

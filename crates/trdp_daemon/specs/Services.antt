@@ -19,7 +19,7 @@ use Rattle.trdp_daemon.specs.Questions.{answer_room}
 use Rattle.trdp_daemon.specs.Turns.{Visit, visit_effect, visits_effect, Turn, takings_of}
 use Rattle.trdp_daemon.specs.Turns.{turn_effect, port_and_room, with_room, TakesAt, TurnTakesAt}
 
--- the node, of which nothing tells what an event cost, its slots' latest lines, the reading of the
+-- the node, in which nothing says what an event cost, its slots' latest lines, the reading of the
 -- latest turn, and the lease
 abbrev pub service_state : Service → ServiceState
 service_state s = record {
@@ -29,7 +29,7 @@ service_state s = record {
   lease = s.lease;
 }
 
--- a service and its link after so many takes and this effect
+-- a service and its link after these takes and this effect
 pub record Comes {W : Type 0} (takings_in : W → Option (List Taking))
     (gives_in : W → Option (List Give)) (old new : Service) (link link_then : Link W)
     (takings : List Taking) (effect : Effect) : Type 0 where
@@ -43,7 +43,7 @@ pub record ComesWith {W : Type 0} (takings_in : W → Option (List Taking))
   pub loss : Loss
   pub comes : Comes takings_in gives_in old new link link_then [] (effect loss)
 
--- an event was taken, or refused, and its records were told but for some texts
+-- an event was taken, or rejected, and its records were offered but for some texts
 pub record ComesTold {W : Type 0} (takings_in : W → Option (List Taking))
     (gives_in : W → Option (List Give)) (old new : Service) (link link_then : Link W)
     (event : EventModel) : Type 0 where
@@ -61,7 +61,7 @@ pub record TakesOnce {W : Type 0} (takings_in : W → Option (List Taking))
   pub comes : Comes takings_in gives_in old new link link_then (visit.taking ∷ [])
       (visit_effect (service_state old) visit)
 
--- takes were made at those of these ports that are there when their place in the order comes, and
+-- takes were made at those of these ports that are there when their turn in the order comes, and
 -- nothing else
 pub record TakesAtPorts {W : Type 0} (takings_in : W → Option (List Taking))
     (gives_in : W → Option (List Give)) (old new : Service) (link link_then : Link W)
@@ -73,7 +73,7 @@ pub record TakesAtPorts {W : Type 0} (takings_in : W → Option (List Taking))
   pub counted : VisitsCounted link.totals (service_state old) visits comes.carried.gives
 
 -- a turn was taken at this reading of the clock, with takes at those of these ports that are there
--- when their place in the order comes
+-- when their turn in the order comes
 pub record TakesTurn {W : Type 0} (takings_in : W → Option (List Taking))
     (gives_in : W → Option (List Give)) (old new : Service) (link link_then : Link W)
     (ports : List Port) (reading : ℕ) : Type 0 where
@@ -84,13 +84,13 @@ pub record TakesTurn {W : Type 0} (takings_in : W → Option (List Taking))
       (turn_effect (service_state old) turn)
   pub counted : TurnCounted link.totals (service_state old) turn comes.carried.gives
 
--- the places that datagrams of process data and of message data go to at this node: where the
--- sockets of these ports are bound
+-- the destinations of process data and of message data that come to this node: where the sockets
+-- of these ports are bound
 abbrev pub IsHome : ConfigModel → Home → Type 0
 IsHome config home = (home.pd ≡ place_of_port config Pd) × (home.md ≡ place_of_port config Md)
 
 -- telegrams go to where the node's configuration says, and there is room for any answer to the
--- operator's questions, and for that to a slot that begins anew
+-- operator's questions, and for that to the reset of a slot
 abbrev pub IsSoundService : Service → Type 0
 IsSoundService s = IsHome s.node.config s.home × (answer_room ≤ vec_capacity s.answer)
     × (0 < s.resets.row_room + length s.resets.records)

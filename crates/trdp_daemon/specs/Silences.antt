@@ -19,7 +19,8 @@ is_line_of slot (MdGroup group) bytes = false
 is_line_of slot Operator bytes = false
 is_line_of slot (Control s) bytes = s == slot && is_ok (control_line_of s bytes)
 
--- no line of this slot came by a take at a port that answered this; what stands for an end is none
+-- no line of this slot came by a take at a port that answered this; the end of an application is
+-- none
 abbrev pub BringsNoLine : ℕ → Port → (ended : Bool) → Arrived → Type 0
 BringsNoLine slot port ended Failed = Unit {0}
 BringsNoLine slot port ended Nothing = Unit {0}
@@ -54,14 +55,14 @@ runs_out slot service port Failed = false
 runs_out slot service port Nothing = is_control_of slot port && is_silent service slot
 runs_out slot service port (Came from bytes) = false
 
--- how often it does at these takes, one after another
+-- how often it does so at these takes, one after another
 abbrev pub times_out : ℕ → ServiceState → List Visit → ℕ
 times_out slot service [] = 0
 times_out slot service (visit ∷ visits) =
     (if runs_out slot service visit.taking.port visit.taking.arrived then 1 else 0)
     + times_out slot (visit_effect service visit).service visits
 
--- how often it does in these turns
+-- how often it does so in these turns
 abbrev pub times_out_in : ℕ → ServiceState → List Turn → ℕ
 times_out_in slot service [] = 0
 times_out_in slot service (turn ∷ turns) =

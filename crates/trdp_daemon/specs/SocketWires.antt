@@ -1,4 +1,4 @@
--- What a wire over sockets makes of its calls.
+-- What a wire over sockets does with its calls.
 use Rattle.std.specs.Prelude.{◌≡◌, ℕ, ◌-◌, ◌^◌, nat_lt, List, [], ◌∷◌, length, codes}
 use Rattle.std.specs.Prelude.{Bool, true, false, ◌&&◌, ◌==◌, if◌then◌else◌}
 use Rattle.std.specs.Prelude.{Option, is_some, Result, is_err}
@@ -29,13 +29,13 @@ takes_lines (Control slot) = true
 unfoldable pub begins_as_answer : List ℕ → Bool
 begins_as_answer bytes = starts_with (λ a b. a == b) bytes (codes "line fault ")
 
--- whether a datagram at a port is such an answer, which isn't answered in turn: else two ports
--- could answer each other for ever
+-- whether a datagram at a port is such an answer, which isn't answered: else two ports could
+-- answer each other for ever
 unfoldable pub is_answer : Port → List ℕ → Bool
 is_answer port bytes = takes_lines port && begins_as_answer bytes
 
--- what a take at a port hands in of what arrived at its socket, where the wire had failed so often:
--- all but answers
+-- what a take at a port hands in of what arrived at its socket, where the wire had failed that
+-- often: all but answers
 unfoldable pub handed_in : ℕ → Port → Arrived → Arrived
 handed_in failures port Failed = failure_after failures
 handed_in failures port Nothing = Nothing
@@ -59,9 +59,9 @@ pub record TakesAtSocket (groups : List ℕ) (old new : Option (List SocketCall)
   pub counted : failures_then ≡ one_more_if (has_failed (arrived_in result room)) failures
   pub noted : heard ≡ is_heard arrived
 
--- one give was made, from the port's socket, of these bytes to that place, and it answers whether
--- that was refused, unless the count of failures is at its last value; the latest refusal is then
--- this one, if it was
+-- one give was made, from the port's socket, of these bytes to that place. It answers whether that
+-- was refused, unless the count of failures is at its last value; the latest refusal is then this
+-- one, if it was
 pub record GivesAtSocket (groups : List ℕ) (old new : Option (List SocketCall)) (port : Port)
     (to : Place) (bytes : List ℕ) (result : Result (Unit {0}) WireFault) (failures failures_then : ℕ)
     (refusal refusal_then : Option Refusal) : Type 0 where

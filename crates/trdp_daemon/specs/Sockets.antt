@@ -13,10 +13,10 @@ use Rattle.trdp_daemon.specs.declared.socket_fault.SocketFault.{SocketFault}
 use Rattle.trdp_daemon.specs.Ports.{network_ports, ports_of, place_of_port}
 use Rattle.trdp_daemon.specs.Told.{TellsMore, Arrived}
 
--- one call, with its answer: a socket is bound at a place, with the time to live of what it sends,
--- where it is to be another than the system's; with room for so many bytes, what was taken from
--- it; what was given to it, and the fault if it refused that; a wait ends when a datagram comes
--- there; and a wait, of at most so many milliseconds, which tells at which sockets something came
+-- one call, with its answer. A socket is bound at a place, with the time to live of what it sends,
+-- where it is to be another than the system's. With room for that many bytes, what was taken from
+-- it. What was given to it, and the fault if it refused that. A wait ends when a datagram comes
+-- there. A wait, of at most that many milliseconds, reports at which sockets something came
 pub data SocketCall : Type 0 where
   Binds : (socket : ℕ) (place : Place) (ttl : Option ℕ) (fault : Option BindFault) → SocketCall
   TakesFrom : (socket room : ℕ) (arrived : Arrived) → SocketCall
@@ -37,7 +37,7 @@ refused fault (GivesFrom socket to bytes answer) = GivesFrom socket to bytes ans
 refused fault (Watches socket answer) = Watches socket (Some fault)
 refused fault (Waits millis told) = Waits millis told
 
--- of these calls, which are told as granted, the first ones were made, and then one that was
+-- of these calls, which are listed as granted, the first ones were made, and then one that was
 -- refused with this fault
 pub record StopsAtOne (calls : List SocketCall) (fault : BindFault)
     (old new : Option (List SocketCall)) : Type 0 where
@@ -47,14 +47,14 @@ pub record StopsAtOne (calls : List SocketCall) (fault : BindFault)
   pub calls_are : calls ≡ granted ++ last ∷ behind
   pub made : TellsMore old new (granted ++ refused fault last ∷ [])
 
--- these calls, which are told as granted, were made in this order and granted; or up to the first
--- that was refused
+-- these calls, which are listed as granted, were made in this order and granted; or up to the
+-- first that was refused
 abbrev pub MadeInTurn : List SocketCall → Option BindFault → Option (List SocketCall)
     → Option (List SocketCall) → Type 0
 MadeInTurn calls None old new = TellsMore old new calls
 MadeInTurn calls (Some fault) old new = StopsAtOne calls fault old new
 
--- the place of a group among these, from 0; behind them all where it is none of them
+-- the index of a group among these, from 0; the number of them where it is none of them
 abbrev pub group_index : List ℕ → ℕ → ℕ
 group_index groups group = unwrap_or (position (λ g. g == group) groups) (length groups)
 

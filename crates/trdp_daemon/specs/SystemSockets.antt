@@ -16,7 +16,7 @@ use Rattle.trdp_daemon.specs.declared.bind_fault.BindFault.{BindFault}
 use Rattle.trdp_daemon.specs.declared.bind_fault.BindFault.TheVariants.{Bind, OutOfMemory}
 use Rattle.trdp_daemon.specs.declared.socket_fault.SocketFault.{SocketFault}
 
--- the number by which a system tells of a source
+-- the number by which a system reports a source
 abbrev pub number_of : Event → ℕ
 number_of event = (event_token event).0
 
@@ -46,7 +46,7 @@ received_of (Ok (len, V4 from)) = Ok (Some (place_at from, len))
 received_of (Ok (len, V6 from)) = Ok None
 received_of (Err error) = untaken_of (error_kind error) (raw_os_error error)
 
--- what a give of so many bytes answers to how many a system says that it sent
+-- what a give of that many bytes answers to how many a system says that it sent
 abbrev pub sent_of : Result ℕ Error → ℕ → Result (Unit {0}) SocketFault
 sent_of (Ok count) len = if count == len then Ok tt else Err (socket_fault None)
 sent_of (Err error) len = Err (socket_fault (raw_os_error error))

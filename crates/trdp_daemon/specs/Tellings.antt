@@ -8,21 +8,21 @@ use Rattle.trdp_daemon.specs.Told.{Taking, Give}
 use Rattle.trdp_daemon.specs.Effects.{text_telling, record_telling, records_telling}
 use Rattle.trdp_daemon.specs.Links.{Carries}
 
--- a text of a slot was told, or lost
+-- a text of a slot was offered, or lost
 pub record TellsText {W : Type 0} (takings_in : W → Option (List Taking))
     (gives_in : W → Option (List Give)) (old new : Link W) (slot : ℕ) (to : Option Place)
     (text : List ℕ) : Type 0 where
   pub lost : Bool
   pub carried : Carries takings_in gives_in old new [] (text_telling slot to lost text)
 
--- a record was told, or lost its text
+-- a record was offered, or lost its text
 pub record TellsRecord {W : Type 0} (takings_in : W → Option (List Taking))
     (gives_in : W → Option (List Give)) (contacts : List (Option Contact)) (old new : Link W)
     (r : RecordModel) : Type 0 where
   pub lost : Bool
   pub carried : Carries takings_in gives_in old new [] (record_telling contacts lost r)
 
--- records were told in their order, but for those that lost their text
+-- records were offered in their order, but for those that lost their text
 pub record Tells {W : Type 0} (takings_in : W → Option (List Taking))
     (gives_in : W → Option (List Give)) (contacts : List (Option Contact)) (old new : Link W)
     (records : List RecordModel) : Type 0 where

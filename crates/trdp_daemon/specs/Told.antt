@@ -1,4 +1,4 @@
--- What a wire tells of its takes and gives, and a clock of its readings.
+-- What a wire reports of its takes and gives, and a clock of its readings.
 use Rattle.std.specs.Prelude.{◌≡◌, ℕ, List, ◌++◌, length, take, Option, Some, None, Result, Ok}
 use Rattle.std.specs.Prelude.{Err}
 use Rattle.std.specs.Prelude.{Bool, false, is_err}
@@ -12,8 +12,8 @@ pub data Arrived : Type 0 where
   Nothing : Arrived
   Came : (from : Place) (bytes : List ℕ) → Arrived
 
--- one take at a port: how many bytes it had room for, what it answered, and whether that stands for
--- the end of the application at the place where it came from
+-- one take at a port: how many bytes it had room for, what it answered, and whether that is the
+-- end of the application at the place where it came from
 pub record Taking : Type 0 where
   pub port : Port
   pub room : ℕ
@@ -67,7 +67,7 @@ abbrev pub give_of : Port → Place → List ℕ → Result (Unit {0}) WireFault
 give_of port to bytes result =
     record { offer = offer_to port to bytes; failed = is_err result }
 
--- a list that is told afterwards was told before, and these were added to it
+-- a list that is reported afterwards was reported before, and these were added to it
 abbrev pub TellsMore : {X : Type 0} → Option (List X) → Option (List X) → List X → Type 0
 TellsMore old None more = Unit {0}
 TellsMore None (Some new) more = ⊥

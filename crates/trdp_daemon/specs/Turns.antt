@@ -16,8 +16,8 @@ use Rattle.trdp_daemon.specs.Effects.{ServiceState, Effect, Loss, TextsLost, sti
 use Rattle.trdp_daemon.specs.Effects.{event_effect}
 use Rattle.trdp_daemon.specs.Visits.{taking_effect}
 
--- one take, what was lost of its datagram, and what was counted as it was answered, this take with
--- it
+-- one take, what was lost of its datagram, and what was counted as it was answered, this take
+-- included
 pub record Visit : Type 0 where
   pub taking : Taking
   pub loss : Loss
@@ -89,7 +89,7 @@ is_there node Operator = true
 is_there node (Control slot) = nat_lt slot (length node.slots)
 
 -- where a port is there, the first of these takes is at it, with the room of a take, and Later
--- holds of those behind it and the service then; where it isn't, Later holds of all
+-- holds of those after it and the service then; where it isn't, Later holds of all
 abbrev pub TakesFirst : Bool → Port → (ServiceState → List Visit → Type 0)
     → ServiceState → List Visit → Type 0
 TakesFirst false port Later service visits = Later service visits
@@ -97,14 +97,14 @@ TakesFirst true port Later service [] = ⊥
 TakesFirst true port Later service (visit ∷ visits) =
     (port_and_room visit ≡ with_room port) × Later (visit_effect service visit).service visits
 
--- from a service on, these are takes at each of the ports that is there when its place in the order
+-- from a service on, these are takes at each of the ports that is there when its turn in the order
 -- comes, once and in their order, each with the room of a take
 abbrev pub TakesAt : List Port → ServiceState → List Visit → Type 0
 TakesAt [] service visits = visits ≡ []
 TakesAt (port ∷ ports) service visits =
     TakesFirst (is_there service.node port) port (TakesAt ports) service visits
 
--- the same of a turn, behind its moment
+-- the same of a turn, after its moment
 abbrev pub TurnTakesAt : List Port → ServiceState → Turn → Type 0
 TurnTakesAt ports service turn =
     TakesAt ports (moment_effect service turn).service turn.visits
@@ -136,11 +136,11 @@ opened_service config lease = record {
 abbrev pub offers_of : ConfigModel → Option ℕ → List Turn → List Offer
 offers_of config lease turns = (turns_effect (opened_service config lease) turns).telling.offers
 
--- how many entries it loses in them for want of memory
+-- how many entries it loses in them where an allocation fails
 abbrev pub missed_of : ConfigModel → Option ℕ → List Turn → ℕ
 missed_of config lease turns = (turns_effect (opened_service config lease) turns).telling.missed
 
--- the same take, or turn, with nothing lost for want of memory
+-- the same take, or turn, with nothing lost
 abbrev pub unlost_visit : Visit → Visit
 unlost_visit visit = record visit { loss = TextsLost [] }
 

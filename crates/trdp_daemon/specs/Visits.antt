@@ -33,8 +33,8 @@ use Rattle.trdp_daemon.specs.Effects.{Loss, LineLost, EventLost, TextsLost}
 unfoldable pub text_of_line_fault : LineFault → List ℕ
 text_of_line_fault fault = codes "line fault " ++ name_of_line_fault fault ++ codes "\n"
 
--- a datagram that is no line gets its fault back from the port that it came to; one that found no
--- memory is lost
+-- a datagram that is no line gets its fault back from the port that it came to; one for which an
+-- allocation failed is lost
 unfoldable pub fault_telling : Port → Place → LineFault → Telling
 fault_telling port from TooLong = offering port from (text_of_line_fault TooLong)
 fault_telling port from Unknown = offering port from (text_of_line_fault Unknown)
@@ -47,7 +47,7 @@ unfoldable pub operator_text : Option NodeFault → List ℕ
 operator_text None = codes "ok\n"
 operator_text (Some fault) = text_of_fault fault
 
--- what the operator is told of an event, behind the event's records
+-- what is offered to the operator for an event, after the event's records
 abbrev pub operator_answer : ServiceState → Place → EventModel → Telling
 operator_answer service from event = offering Operator from
     (operator_text (refused_as (length service.node.slots) service.node.globals event))
@@ -102,7 +102,7 @@ abbrev pub lives_still : ServiceState → ℕ → ServiceState
 lives_still service slot = with_contact service slot
     (option_map (read_again service.reading) (contact_of service.contacts slot))
 
--- a line is lost where it carries bytes; elsewhere it comes to this effect
+-- a line is lost where it carries bytes; elsewhere it has this effect
 abbrev pub line_lost_or : ServiceState → ℕ → EventModel → Effect → Effect
 line_lost_or service slot event effect = if carries_bytes (Some event)
     then telling_only (lives_still service slot) missing else effect
@@ -145,15 +145,15 @@ datagram_effect service totals Operator from bytes loss =
 datagram_effect service totals (Control slot) from bytes loss =
     control_effect service slot from (control_line_of slot bytes) loss
 
--- the same where it may stand for the end of the application at its place
+-- the same where it may be the end of the application at its place
 abbrev pub came_effect : (ended : Bool) → ServiceState → Totals → Port → Place → List ℕ → Loss
     → Effect
 came_effect true service totals port from bytes loss = ended_effect service port loss
 came_effect false service totals port from bytes loss =
     datagram_effect service totals port from bytes loss
 
--- what a take comes to, where these are the totals, and it stands for an end or not; one that
--- failed comes to nothing
+-- the effect of a take, where these are the totals, and it is an end or not; one that failed has
+-- none
 unfoldable pub taking_effect : ServiceState → Totals → Port → (ended : Bool) → Arrived → Loss
     → Effect
 taking_effect service totals port ended Failed loss = still service

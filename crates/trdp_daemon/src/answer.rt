@@ -11,8 +11,8 @@ use trdp_base::Place;
 use trdp_engine::NodeFault;
 use trdp_script::LineFault;
 
-/// Answers a datagram that is no line with its fault, from the port that it came to. One that found
-/// no memory is counted, and lost.
+/// Answers a datagram that is no line with its fault, from the port that it came to. One for which
+/// an allocation failed is counted, and lost.
 #[tactic(auto, unfolding(crate::specs::Visits::fault_telling))]
 pub(crate) fn refuse<W: Wire>(port: Port, from: Place, fault: LineFault, link: &mut Link<W>)
     ensures { Carries W.takings W.gives link.old link.new [] (fault_telling port from fault) }

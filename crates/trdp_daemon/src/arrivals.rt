@@ -22,10 +22,11 @@ use trdp_base::Place;
 pub(crate) struct Arrival {
     /// The port that it arrives at.
     pub(crate) port: Port,
-    /// At which take at that port, counted from 1.
+    /// The number of the take at that port at which it arrives, from 1.
     pub(crate) at_take: usize,
     /// Where it comes from.
     pub(crate) from: Place,
+    /// Its bytes.
     pub(crate) bytes: Vec<u8>,
 }
 
@@ -59,14 +60,15 @@ pub(crate) fn is_failing(numbers: &[usize], number: usize) -> bool
     numbers.iter().any(|n| *n == number)
 }
 
-/// How many takes were made at a port.
+/// The number of takes that were made at a port.
 pub(crate) fn takes_at(taken: &[TakeRow], port: Port) -> usize
     ensures { result ≡ count_by (λ row. is_port row.port port) taken.now }
 {
     taken.iter().filter(|row| row.port.is(port)).count()
 }
 
-/// The index of what arrives at that take at a port, the first of several.
+/// The index of what arrives at that take at a port, the first of several; None where nothing
+/// does.
 fn arrival_index(arrivals: &[Arrival], port: Port, number: usize) -> Option<usize>
     ensures { result ≡ position (arrives_at port number) arrivals.now }
 {
@@ -75,7 +77,7 @@ fn arrival_index(arrivals: &[Arrival], port: Port, number: usize) -> Option<usiz
         .position(|arrival| arrival.is_at(port, number))
 }
 
-/// What a take answers behind others at its port, and the row that tells of it.
+/// What a take answers after others at its port, and the row that records it.
 pub(crate) fn answer_take(
     arrivals: &[Arrival],
     failures: &mut u64,
@@ -101,7 +103,7 @@ pub(crate) fn answer_take(
     (answer, Ok(found))
 }
 
-/// What a take answers that is to fail, and the row that tells of it.
+/// What a take answers that is to fail, and the row that records it.
 #[tactic(auto, unfolding(crate::specs::MemoryWires::failure_after, crate::specs::MemoryWires::one_more_if, crate::specs::MemoryWires::room_after))]
 pub(crate) fn failing_take(
     failures: &mut u64,
@@ -122,7 +124,7 @@ pub(crate) fn failing_take(
     }
 }
 
-/// What arrives at that take at a port, and the row that tells of it.
+/// What arrives at that take at a port, and the row that records it.
 #[tactic(auto, unfolding(crate::specs::MemoryWires::one_more_if))]
 fn take_arrival(
     arrivals: &[Arrival],
@@ -149,7 +151,7 @@ fn take_arrival(
     }
 }
 
-/// Puts as many of these bytes at the front of the room as it holds, and answers how many.
+/// Puts as many of these bytes at the front of the room as it holds, and returns their number.
 pub(crate) fn fill(room: &mut [u8], bytes: &[u8]) -> usize
     ensures within { result ≤ length room.new }
     ensures bytes { take result room.new ≡ take (length room.old) bytes.now }

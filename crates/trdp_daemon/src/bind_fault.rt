@@ -8,7 +8,7 @@ pub enum BindFault {
     /// The system refuses one of the ports.
     #[error("a port of the node can't be bound")]
     Bind = 1,
-    /// The system has no memory for one of the ports.
+    /// The system is out of memory for one of the ports.
     #[error("there is no memory for the sockets")]
     OutOfMemory = 2,
 }

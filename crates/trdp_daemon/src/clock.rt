@@ -3,14 +3,14 @@
 ghost use Rattle.std.specs.Prelude.{◌≡◌, [], ◌∷◌};
 ghost use Rattle.trdp_daemon.specs.Told.{TellsMore};
 
-/// A clock, in microseconds from a moment of its own. It may tell its readings and its sleeps.
+/// A clock, in microseconds from a time of its own. It may report its readings and its sleeps.
 pub trait Clock {
     ghost use Rattle.std.specs.Prelude.{ℕ, List, Option};
 
-    /// What it has read, in order; none where this clock doesn't tell.
+    /// What it has read, in order; none where this clock reports nothing.
     ghost readings: { Self → Option (List ℕ) };
 
-    /// How long it has slept, in microseconds and in order; none where this clock doesn't tell.
+    /// How long it has slept, in microseconds and in order; none where this clock reports nothing.
     ghost sleeps: { Self → Option (List ℕ) };
 
     /// Reads the clock, in microseconds.
@@ -18,7 +18,7 @@ pub trait Clock {
         ensures told { TellsMore (readings self.old) (readings self.new) (result ∷ []) }
         ensures sleeps_nothing { sleeps self.new ≡ sleeps self.old };
 
-    /// Sleeps for so many microseconds, whatever comes meanwhile.
+    /// Sleeps for `micros` microseconds, whatever comes meanwhile.
     fn sleep(&mut self, micros: u64)
         ensures told { TellsMore (sleeps self.old) (sleeps self.new) (micros ∷ []) }
         ensures reads_nothing { readings self.new ≡ readings self.old };

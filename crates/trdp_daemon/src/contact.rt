@@ -1,4 +1,4 @@
-//! When a slot was heard, and from where.
+//! When a slot's latest line came, and from where.
 
 ghost use Rattle.std.specs.Prelude.{◌≡◌, option_map, slice_set};
 ghost use Rattle.trdp_daemon.specs.Effects.{contact_of, read_again, with_contact};
@@ -11,15 +11,15 @@ use trdp_base::Place;
 /// The latest line of a slot.
 #[derive(Clone, Copy)]
 pub(crate) struct Contact {
-    /// Where the datagram came from that read as the line: the slot's control place.
+    /// The source of the datagram that read as the line: the slot's control place.
     pub(crate) place: Place,
-    /// The reading of the clock of the turn that took it, or a later one with a fault, in
-    /// microseconds.
+    /// The reading of the clock, in microseconds, of the turn that took it, or of a later turn
+    /// with a line that had a fault.
     pub(crate) reading: u64,
 }
 
 impl Service {
-    /// Notes a line of a slot, which came from there in this turn, if there is such a slot.
+    /// Notes a line of a slot, which came from `from` in this turn, if there is such a slot.
     pub(crate) fn hear(&mut self, slot: u16, from: Place)
         requires sound { IsSoundService self.old }
         ensures sound { IsSoundService self.new }
@@ -34,7 +34,7 @@ impl Service {
     }
 
     /// Notes that the application of a slot lives, if it had a line before, by a line with a fault
-    /// in this turn: where it is stays as it was.
+    /// in this turn: its control place stays as it was.
     pub(crate) fn hear_again(&mut self, slot: u16)
         requires sound { IsSoundService self.old }
         ensures sound { IsSoundService self.new }
@@ -57,7 +57,7 @@ impl Service {
     }
 }
 
-/// The latest line of the slot of that number; None where it had none.
+/// The latest line of the slot of that number; None where it had none, or it was forgotten.
 pub(crate) fn contact_of(contacts: &[Option<Contact>], slot: u16) -> Option<Contact>
     ensures { result ≡ contact_of contacts.now slot }
 {
@@ -67,7 +67,7 @@ pub(crate) fn contact_of(contacts: &[Option<Contact>], slot: u16) -> Option<Cont
     }
 }
 
-/// The latest line of a slot, if it had one, had it come in the turn of this reading.
+/// The latest line of a slot, if it had one, as if it had come in the turn of this reading.
 fn read_again(contact: Option<Contact>, reading: u64) -> Option<Contact>
     ensures { result ≡ option_map (read_again reading) contact }
 {

@@ -18,8 +18,8 @@ use trdp_base::MOMENT_MAX;
 use trdp_dataset::NodeConfig;
 use trdp_engine::{Event, Node};
 
-/// Room for what a take takes, in bytes: for any line of a control connection, and for more than
-/// the longest datagram over UDP has.
+/// Room for what a take takes, in bytes: for any line of a control connection, which is more than
+/// the longest datagram over UDP.
 const TAKE_ROOM: usize = 140_000;
 
 /// A node that takes its datagrams from a wire and its time from a clock, and gives the wire what
@@ -34,9 +34,9 @@ pub struct Daemon<W: Wire, C: Clock> {
     room: Vec<u8>,
     /// The wire, with the totals.
     link: Link<W>,
-    /// The bytes that a line carries.
+    /// The bytes that a line carries, used again from line to line.
     buffer: Vec<u8>,
-    /// Where each turn has its time from.
+    /// The clock that each turn reads once.
     clock: C,
 }
 
@@ -72,7 +72,7 @@ impl<W: Wire, C: Clock> Daemon<W, C> {
     /// It has no lease: the application of a slot may be silent for ever.
     ///
     /// # Errors
-    /// Configuration, wire and clock come back for want of memory.
+    /// Configuration, wire and clock come back where an allocation fails.
     pub fn new(
         alloc: Global,
         config: NodeConfig,
@@ -88,16 +88,16 @@ impl<W: Wire, C: Clock> Daemon<W, C> {
         Daemon::with_lease(alloc, config, None, wire, clock)
     }
 
-    /// The same with a lease of so many microseconds, if there is one. Where a take at the control
-    /// port of a slot finds nothing, and its turn began more than that behind the turn of the
-    /// slot's latest line, the slot begins anew, as by its own call. Nobody is told, and the slot
-    /// has no control place up to its next line: so it begins anew once for each silence. A slot
-    /// that had no line yet may be silent for ever. No rest ends for a lease.
+    /// The same with a lease of that many microseconds; None is no lease. A slot is reset, as by
+    /// its own call, where a take at its control port finds nothing and the take's turn began more
+    /// than the lease after the turn of the slot's latest line. The reset is reported to no one,
+    /// and the slot has no control place up to its next line: so it is reset once for each
+    /// silence. A slot that had no line yet may be silent for ever. No rest ends for a lease.
     ///
     /// All buffers are made here but that of the bytes of lines, which grows with them.
     ///
     /// # Errors
-    /// Configuration, wire and clock come back for want of memory.
+    /// Configuration, wire and clock come back where an allocation fails.
     pub fn with_lease(
         alloc: Global,
         config: NodeConfig,
@@ -143,9 +143,9 @@ impl<W: Wire, C: Clock> Daemon<W, C> {
         &self.link.wire
     }
 
-    /// Takes one turn: the moment that the clock says, and then at each port of the configuration
-    /// once, in the order process data, message data, operator, control ports of the slots. Answers
-    /// the totals since the daemon was made.
+    /// Takes one turn: the moment that the clock gives, and then one take at each port of the
+    /// configuration, in the order process data, message data, those of the groups, operator,
+    /// control ports of the slots. Returns the totals since the daemon was made.
     pub fn turn(&mut self) -> Totals
         ensures turn { TakesTurns W.takings W.gives C.readings 1 self.old self.new }
         ensures served { (config : ConfigModel) (lease : Option ℕ) (wire : W) (clock : C) (n : ℕ)
@@ -157,7 +157,7 @@ impl<W: Wire, C: Clock> Daemon<W, C> {
         self.totals()
     }
 
-    /// Takes so many turns. Answers the totals since the daemon was made.
+    /// Takes `turns` turns. Returns the totals since the daemon was made.
     pub fn run(&mut self, turns: u32) -> Totals
         ensures turns { TakesTurns W.takings W.gives C.readings turns self.old self.new }
         ensures served { (config : ConfigModel) (lease : Option ℕ) (wire : W) (clock : C) (n : ℕ)
@@ -172,8 +172,8 @@ impl<W: Wire, C: Clock> Daemon<W, C> {
     }
 
     /// Takes turns until one begins at the reading `until` of the clock or later, in microseconds,
-    /// and at most 2^64 - 1 of them. Behind each turn but that one the wire is asked for a rest:
-    /// until a datagram may be there, and at most until something is due or `until` comes. Answers
+    /// and at most 2^64 - 1 of them. After each turn but that one the wire is asked for a rest:
+    /// until a datagram may be there, and at most until something is due or `until` comes. Returns
     /// the reading of the last turn.
     pub fn attend(&mut self, until: u64) -> u64
         ensures turns { AttendsUntil W.takings W.gives C.readings until result self.old self.new }
@@ -193,8 +193,8 @@ impl<W: Wire, C: Clock> Daemon<W, C> {
         reading
     }
 
-    /// Takes one turn: the moment of a reading of the clock, and then at each port once that is
-    /// there when its place in the order comes. Answers the reading.
+    /// Takes one turn: the moment of a reading of the clock, and then one take at each port that
+    /// is there when its turn in the order comes. Returns the reading.
     fn timed_turn(&mut self) -> u64
         ensures { TakesTurnAt W.takings W.gives C.readings result self.old self.new }
     {
@@ -225,7 +225,7 @@ impl<W: Wire, C: Clock> Daemon<W, C> {
 /// The ports of a turn, and room for a take.
 ///
 /// # Errors
-/// Want of memory for these.
+/// `AllocError` where an allocation for these fails.
 fn buffers(alloc: Global, config: &NodeConfig) -> Result<(Vec<Port>, Vec<u8>), AllocError>
     ensures ports { IfOk result (λ made. made.0.items ≡ ports_of config.now) }
     ensures room { IfOk result (λ made. length made.1.items ≡ take_room) }

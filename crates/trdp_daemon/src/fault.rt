@@ -5,12 +5,13 @@ ghost use Rattle.trdp_daemon.specs.MemoryWires.{one_more_if};
 
 use thiserror::Error;
 
-/// The wire couldn't take or give a datagram.
+/// The wire can't take or give a datagram.
 #[derive(Clone, Copy, Debug, PartialEq, Eq, Error)]
 #[error("the wire couldn't take or give a datagram")]
 pub struct WireFault;
 
-/// A wire fails, which is counted, unless the count of failures is at its last value.
+/// A wire fails. The failure is counted, unless the count is at its last value: then nothing
+/// failed.
 ///
 /// # Errors
 /// `WireFault`, where the count rose.

@@ -9,13 +9,14 @@ use arrayvec::ArrayVec;
 use std::marker::Model;
 use trdp_dataset::NodeConfig;
 
-/// The most groups that a configuration names.
+/// The most groups that a configuration names (profile).
 const GROUPS_MAX: usize = 32;
 
 /// The addresses of the groups whose telegrams come to a node, in the order of its configuration
-/// and in host order: by them each of its ports has its socket.
+/// and in host order. They decide which socket each port of a group has.
 #[derive(Drop)]
 pub struct Groups {
+    /// The addresses, at most 32; empty where the node is in no group.
     addresses: ArrayVec<u32, GROUPS_MAX>,
 }
 
@@ -39,8 +40,9 @@ impl Groups {
         Groups { addresses }
     }
 
-    /// The number of a port's socket, by which news are told of it too. Those of control ports
-    /// stand behind the three others, and those of the groups behind them all, two for each.
+    /// The number of a port's socket, which is that of its news too: 0 to 2 for process data,
+    /// message data and the operator, then the control ports by slot, and from 34 on two for each
+    /// group.
     pub fn socket_of(&self, port: Port) -> usize
         ensures { result ≡ socket_of self.now port }
     {
@@ -54,7 +56,7 @@ impl Groups {
         }
     }
 
-    /// The place of a group, from 0; behind them all where it is none of them.
+    /// The index of a group, from 0; the number of groups where it is none of them.
     fn index(&self, group: u32) -> usize
         ensures value { result ≡ group_index self.now group }
         ensures most { result ≤ 32 }
@@ -64,7 +66,7 @@ impl Groups {
     }
 }
 
-/// The place of a group among these, from 0; None where it is none of them.
+/// The index of a group among these, from 0; None where it is none of them.
 fn place_among(groups: &[u32], group: u32) -> Option<usize>
     ensures value { result ≡ position (λ g. g == group) groups.now }
     ensures within { IfSome result (λ place. place < length groups.now) }

@@ -1,4 +1,4 @@
-//! Where telegrams go to at a node.
+//! The destinations of telegrams that come to a node.
 
 ghost use Rattle.trdp_daemon.specs.Services.{IsHome};
 
@@ -7,7 +7,7 @@ use crate::seats::place_of_port;
 use trdp_base::Place;
 use trdp_dataset::NodeConfig;
 
-/// Where datagrams of process data and of message data go to at a node.
+/// Where datagrams of process data and of message data that come to a node were sent to.
 #[derive(Clone, Copy)]
 pub(crate) struct Home {
     /// The node's address with its port of process data.
@@ -16,8 +16,7 @@ pub(crate) struct Home {
     pub(crate) md: Place,
 }
 
-/// Where telegrams go to at the node of a configuration: where the sockets of these ports are
-/// bound.
+/// The destinations at the node of a configuration: where the sockets of these ports are bound.
 pub(crate) fn home_of(config: &NodeConfig) -> Home
     ensures { IsHome config.now result }
 {

@@ -23,21 +23,19 @@ ghost use Rattle.trdp_daemon.specs.Turns.{opened_service};
 ghost use Rattle.trdp_daemon.specs.Visits.{OpensNoSlot, datagram_effect, operator_event};
 ghost use Rattle.trdp_daemon.specs.Visits.{operator_taken};
 
-/// Turns in which nothing was counted as lost for want of memory are turns in which nothing was
-/// lost: what they come to and offer follows from the readings, the takes, and what was counted as
-/// each take was answered.
+/// Turns in which `memory` counted nothing are turns in which nothing was lost: their results and
+/// offers follow from the readings, the takes, and what was counted as each take was answered.
 pub fn nothing_missed()
     ensures { (service : ServiceState) (turns : List Turn)
         → (turns_effect service turns).telling.missed ≡ 0
         → turns_effect service turns ≡ turns_effect service (map unlost turns) }
 {}
 
-/// An event may be lost only where the node says that memory may be wanting for it: elsewhere one
-/// that is marked as lost, or its line, comes to what it comes to where it is taken, and so does
-/// its turn. An event of the operator is then taken, and answered. A line may be lost only where it
-/// carries bytes: elsewhere one that is marked as lost comes to what it comes to where it is read.
-/// So no skipped line is lost, and of what comes to the operator's port nothing but the opening of
-/// a slot, which takes memory: no question is.
+/// An event may be lost only where the node says that it may need memory. Any other that is marked
+/// as lost, or whose line is, has the effect of one that is taken, and so has its turn; one of the
+/// operator is taken, and answered. A line may be lost only where it carries bytes: any other that
+/// is marked as lost has the effect of one that is read. So no skipped line is lost, and at the
+/// operator's port nothing but the opening of a slot, which allocates: no question is.
 pub fn lost_only_where_memory_is_taken()
     ensures tested { (node : NodeModel) (event : EventModel)
         → (may_take_memory node event ≡ true)
@@ -69,8 +67,8 @@ pub fn lost_only_where_memory_is_taken()
 
 /// Where the slots of all control ports of a configuration are open, each turn takes once at each
 /// port of the configuration, in their order, each time with the room of a take: a slot that is
-/// open stays so. A node opens each slot of its configuration from the start, so that where no
-/// spare port is named it does so from the first turn on.
+/// open stays so. A node opens each slot of its configuration from the start. So, where no spare
+/// port is named, this holds from the first turn on.
 pub fn each_port_is_taken_from()
     ensures served { (config : ConfigModel) (service : ServiceState) (turns : List Turn)
         → length (control_numbers config) ≤ length service.node.slots
@@ -82,16 +80,16 @@ pub fn each_port_is_taken_from()
         → All (TakesAtEach (ports_of config)) turns }
 {}
 
-/// In turns in which no line of a slot comes, the lease runs out for it once at most: where it did,
-/// it does again only behind the slot's next line.
+/// In turns in which no line of a slot comes, the lease runs out for it once at most: after that
+/// it can run out again only after the slot's next line.
 pub fn silence_resets_once()
     ensures { (service : ServiceState) (slot : ℕ) (turns : List Turn)
         → HaveNoLine slot turns
         → times_out_in slot service turns ≤ 1 }
 {}
 
-/// Where the wire hands in the end of an application, nothing is told: the answer to the slot that
-/// begins anew goes to nobody, is offered to no wire, and nothing of it is lost.
+/// Where the wire hands in the end of an application, nothing is sent for it: the answer to the
+/// slot's reset belongs to no one, is offered to no wire, and nothing of it is lost.
 pub fn an_end_tells_nobody()
     ensures { (service : ServiceState) (port : Port) (loss : Loss)
         → (ended_effect service port loss).telling ≡ silence }

@@ -1,5 +1,5 @@
-//! The end of a slot's application: the wire tells of it, or a lease has run out, which says how long
-//! it may be silent.
+//! The end of a slot's application: the wire reports it, or a lease has run out, which is how long
+//! the application may be silent.
 
 ghost use Rattle.std.specs.Prelude.{◌≡◌};
 ghost use Rattle.trdp_daemon.specs.Leases.{end_effect, ended_effect, has_run_out, is_silent};
@@ -14,8 +14,8 @@ use crate::wire::Wire;
 use trdp_engine::{Call, Event};
 
 impl Service {
-    /// Sees that nothing came to a port: at a control port the slot's application may have been
-    /// silent for too long.
+    /// Handles a take that found nothing at a port: at a control port the slot's application may
+    /// have been silent for too long.
     pub(crate) fn take_nothing<W: Wire>(&mut self, port: Port, link: &mut Link<W>)
         requires sound { IsSoundService self.old }
         ensures sound { IsSoundService self.new }
@@ -43,7 +43,7 @@ impl Service {
         has_run_out(self.lease, self.reading, contact_of(&self.contacts, slot))
     }
 
-    /// Lets a slot begin anew for which the lease has run out, once for each silence.
+    /// Resets a slot for which the lease has run out, once for each silence.
     fn end_silence<W: Wire>(&mut self, slot: u16, link: &mut Link<W>)
         requires sound { IsSoundService self.old }
         ensures sound { IsSoundService self.new }
@@ -56,7 +56,7 @@ impl Service {
         }
     }
 
-    /// Takes the end of an application: at a control port that slot's has ended.
+    /// Handles the end of an application: at a control port that slot's has ended.
     pub(crate) fn take_end<W: Wire>(&mut self, port: Port, link: &mut Link<W>)
         requires sound { IsSoundService self.old }
         ensures sound { IsSoundService self.new }
@@ -69,8 +69,8 @@ impl Service {
         }
     }
 
-    /// Lets a slot begin anew whose application has ended. Its latest line is forgotten before, so
-    /// that its answer goes to nobody, and no lease runs out for it before its next line.
+    /// Resets a slot whose application has ended. Its latest line is forgotten before, so that its
+    /// answer belongs to no one, and no lease runs out for it before its next line.
     fn end<W: Wire>(&mut self, slot: u16, link: &mut Link<W>)
         requires sound { IsSoundService self.old }
         ensures sound { IsSoundService self.new }
@@ -87,7 +87,7 @@ impl Service {
     }
 }
 
-/// Whether a lease of so many microseconds has run out behind the latest line of a slot, by this
+/// Whether a lease of that many microseconds has run out after the latest line of a slot, by this
 /// reading of the clock.
 #[tactic(auto, unfolding(crate::specs::Leases::has_run_out))]
 fn has_run_out(lease: Option<u64>, reading: u64, contact: Option<Contact>) -> bool

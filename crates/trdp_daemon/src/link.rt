@@ -1,4 +1,4 @@
-//! A wire, with the counts of what came and went.
+//! A wire, with the totals of what came and went.
 
 ghost use Rattle.std.specs.Prelude.{◌≡◌, ◌≤◌, ℕ, Bool, List, [], ◌∷◌, length, IfOk, IfSome};
 ghost use Rattle.trdp_base.specs.declared.place.Place.{Place};
@@ -14,10 +14,12 @@ use crate::totals::Totals;
 use crate::wire::Wire;
 use trdp_base::Place;
 
-/// A wire, with the counts of what came and went.
+/// A wire, with the totals of what came and went.
 #[derive(Drop)]
 pub(crate) struct Link<W: Wire> {
+    /// The wire.
     pub(crate) wire: W,
+    /// What came, went and was lost so far.
     pub(crate) totals: Totals,
     /// How long the latest rest was asked for, in microseconds; 0 before the first.
     pub(crate) asked: u64,
@@ -43,9 +45,9 @@ impl<W: Wire> Link<W> {
         }
     }
 
-    /// Takes the next datagram at a port, if one is there: it is put at the front of the room, and
-    /// the answer is where it came from and how many bytes it has there. What came is counted. Where
-    /// `anew`, the wire looks for one whatever news it has of the port.
+    /// Takes the next datagram at a port, if one is there. It is put at the front of the room; the
+    /// answer is where it came from and how many bytes it has there. What came is counted. Where
+    /// `anew` is true, the wire looks for one whatever news it has of the port.
     ///
     /// # Errors
     /// `WireFault`, where the wire fails, which is counted.
@@ -73,7 +75,7 @@ impl<W: Wire> Link<W> {
         self.wire.has_ended(port, place)
     }
 
-    /// Notes that something may be at a port, if so asked.
+    /// Notes that something may be at a port, if `anew` is true.
     fn renew(&mut self, port: Port, anew: bool)
         ensures takes_nothing { W.takings self.new.wire ≡ W.takings self.old.wire }
         ensures gives_nothing { W.gives self.new.wire ≡ W.gives self.old.wire }
@@ -95,8 +97,8 @@ impl<W: Wire> Link<W> {
         count_give(&mut self.totals, given.is_err());
     }
 
-    /// Asks the wire for a rest until a datagram may be there, of so many microseconds at most, and
-    /// notes how long that is: what is noted is what the wire is handed.
+    /// Asks the wire for a rest until a datagram may be there, of at most `most` microseconds, and
+    /// notes that length: what is noted is what the wire is handed.
     pub(crate) fn rest(&mut self, most: u64)
         ensures asked { self.new.asked ≡ most }
         ensures takes_nothing { W.takings self.new.wire ≡ W.takings self.old.wire }
@@ -107,7 +109,7 @@ impl<W: Wire> Link<W> {
         self.wire.rest(self.asked);
     }
 
-    /// Counts something that was lost for want of memory.
+    /// Counts something that was lost because an allocation failed.
     pub(crate) fn miss(&mut self)
         ensures carried { Carries W.takings W.gives self.old self.new [] missing }
         ensures asked { self.new.asked ≡ self.old.asked }
@@ -139,7 +141,7 @@ fn count_give(totals: &mut Totals, failed: bool)
     totals.offered = one_more(totals.offered);
 }
 
-/// A count with one more, which stops at its last value.
+/// A count that is one higher; it stops at its last value.
 fn one_more(count: u64) -> u64
     ensures { result ≡ counted count 1 }
 {

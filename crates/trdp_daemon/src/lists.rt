@@ -15,13 +15,13 @@ const TEXT_ROOM: usize = 140_000;
 /// What a service uses again from event to event.
 #[derive(Drop)]
 pub(crate) struct Lists {
-    /// No line of any slot.
+    /// The latest line of each slot that a node may have: None for each.
     pub(crate) contacts: Vec<Option<Contact>>,
     /// Room for the line of a record.
     pub(crate) text: Vec<u8>,
     /// Room for an answer to the operator.
     pub(crate) answer: Vec<u8>,
-    /// Room for the answer to a slot that begins anew.
+    /// Room for the answer to the reset of a slot.
     pub(crate) resets: Outbox,
 }
 
@@ -29,7 +29,7 @@ impl Lists {
     /// The lists of a service before its first event.
     ///
     /// # Errors
-    /// Want of memory for these.
+    /// `AllocError` where an allocation for these fails.
     pub(crate) fn new(alloc: Global) -> Result<Lists, AllocError>
         ensures contacts { IfOk result (λ made. made.contacts.items ≡ no_contacts) }
         ensures answer { IfOk result (λ made. answer_room ≤ vec_capacity made.answer) }

@@ -8,19 +8,19 @@ use crate::clock::Clock;
 use std::alloc::{AllocError, Global};
 
 /// A clock that reads the numbers of a list in order, and then the last one again and again; of an
-/// empty list it reads 0. It tells its readings, up to 2^64 - 1 of them; after that it tells none.
-/// It sleeps not at all, and tells for how long it was asked to, until memory is wanting.
+/// empty list it reads 0. It reports its readings, up to 2^64 - 1 of them, and then none. It
+/// doesn't sleep, and reports how long it was asked to, until an allocation fails.
 #[derive(Drop)]
 pub struct MemoryClock {
     /// What it reads, in order.
     moments: Vec<u64>,
     /// How many readings there were, at most 2^64 - 1.
     count: u64,
-    /// Whether it tells them.
+    /// Whether it reports them.
     tells: bool,
     /// How long it would have slept, in microseconds and in order.
     sleeps: Vec<u64>,
-    /// Whether it tells these.
+    /// Whether it reports these.
     tells_sleeps: bool,
 }
 
@@ -28,7 +28,7 @@ impl MemoryClock {
     /// A clock that reads these numbers.
     ///
     /// # Errors
-    /// Want of memory for the list.
+    /// `AllocError` where an allocation for the list fails.
     pub fn new(alloc: Global, moments: &[u64]) -> Result<MemoryClock, AllocError>
         ensures moments { IfOk result (λ clock. clock.moments.items ≡ moments.now) }
         ensures count { IfOk result (λ clock. clock.count ≡ 0) }
@@ -45,7 +45,7 @@ impl MemoryClock {
         })
     }
 
-    /// How long it would have slept, in microseconds and in order, until memory was wanting.
+    /// How long it would have slept, in microseconds and in order, until an allocation failed.
     pub fn sleeps(&self) -> &[u64]
         ensures { IfSome (told_sleeps self.now) (λ sleeps. sleeps ≡ result.now) }
     {

@@ -19,8 +19,8 @@ use trdp_base::{Ip, Place};
 pub enum SocketRow {
     /// It was bound at a place, with the time to live of what it sends, if one was named.
     Bound(usize, Place, Option<u8>),
-    /// With room for so many bytes a take found nothing, or where a datagram came from and the
-    /// bytes of it that had room.
+    /// A take, and how many bytes it had room for: it found nothing, or a datagram from a socket
+    /// address, with its bytes as far as there was room.
     Taken(usize, usize, Option<(Place, Vec<u8>)>),
     /// These bytes were given to it, for a place.
     Given(usize, Place, Vec<u8>),
@@ -28,7 +28,7 @@ pub enum SocketRow {
     Refused(usize, Place, Vec<u8>, SocketFault),
     /// It was watched.
     Watched(usize),
-    /// A wait, of so many milliseconds, and the numbers of the sockets of which it told.
+    /// A wait, of that many milliseconds, and the numbers of the sockets that it reported.
     Waited(u64, Vec<usize>),
 }
 
@@ -44,11 +44,11 @@ struct SocketArrival {
 }
 
 /// Sockets in memory: datagrams are laid down for them, and they remember what was asked. They
-/// tell it, until memory is wanting; after that they tell nothing. They refuse nothing but what is
-/// given for an address that was cut off.
+/// report that until an allocation fails, and then nothing. They refuse nothing but what is given
+/// for an address that was cut off.
 #[derive(Drop)]
 pub struct MemorySockets {
-    /// What their lists take memory from.
+    /// Where their lists take their memory from.
     alloc: Global,
     /// What was laid down and not taken yet, in order.
     arrivals: Vec<SocketArrival>,
@@ -56,7 +56,7 @@ pub struct MemorySockets {
     rows: Vec<SocketRow>,
     /// The address to which no way leads; None where ways lead to all.
     far: Option<Ip>,
-    /// Whether all is told.
+    /// Whether they report what was asked.
     tells: bool,
 }
 
@@ -75,10 +75,10 @@ impl MemorySockets {
         }
     }
 
-    /// Lays down a datagram, behind the others at its socket.
+    /// Lays down a datagram, after the others at its socket.
     ///
     /// # Errors
-    /// Want of memory for it.
+    /// `AllocError` where an allocation for it fails.
     pub fn arrive(&mut self, socket: usize, from: Place, bytes: &[u8]) -> Result<(), AllocError>
         ensures { told_calls self.new ≡ told_calls self.old }
     {
@@ -99,14 +99,14 @@ impl MemorySockets {
         self.far = Some(far);
     }
 
-    /// What was asked, in order, until memory was wanting.
+    /// What was asked, in order, until an allocation failed.
     pub fn rows(&self) -> &[SocketRow]
         ensures { IfSome (told_calls self.now) (λ calls. calls ≡ map call_of result.now) }
     {
         &self.rows
     }
 
-    /// Takes the next datagram at a socket out of those that were laid down.
+    /// Takes the next datagram at a socket out of those that were laid down; None where none is.
     fn next_at(&mut self, socket: usize, room: &mut [u8]) -> Option<(Place, usize)>
         ensures within { IfSome result (λ found. found.1 ≤ length room.new) }
         ensures length { length room.new ≡ length room.old }
@@ -121,7 +121,7 @@ impl MemorySockets {
     /// The numbers of the sockets at which datagrams wait, for each of these.
     ///
     /// # Errors
-    /// Want of memory for them.
+    /// `AllocError` where an allocation for them fails.
     fn sockets_of_arrivals(&self) -> Result<Vec<usize>, AllocError> {
         let mut sockets = Vec::new(self.alloc);
         for arrival in self.arrivals.iter() {
@@ -193,7 +193,7 @@ impl Sockets for MemorySockets {
         Ok(())
     }
 
-    /// Tells of each datagram that waits.
+    /// Reports each datagram that waits.
     fn wait(&mut self, millis: u64, news: &mut [bool]) {
         match self.sockets_of_arrivals() {
             Ok(told) => {
@@ -208,7 +208,7 @@ impl Sockets for MemorySockets {
 /// A take that put this into a room.
 ///
 /// # Errors
-/// Want of memory for its bytes.
+/// `AllocError` where an allocation for its bytes fails.
 fn taken(
     alloc: Global,
     socket: usize,
@@ -232,7 +232,7 @@ fn taken(
 /// A give of these bytes that was answered so.
 ///
 /// # Errors
-/// Want of memory for them.
+/// `AllocError` where an allocation for them fails.
 fn given(
     alloc: Global,
     socket: usize,

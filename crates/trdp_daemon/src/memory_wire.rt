@@ -19,9 +19,9 @@ use trdp_base::Place;
 
 /// A wire over which what was laid down before arrives, and which remembers what it is given.
 ///
-/// It has room for so many takes, gives and bytes of gives. A call beyond one of these rooms is a
-/// fault, and from then on it tells nothing. It never waits: of the rests that it is asked for it
-/// remembers the first, as many as it has room for takes.
+/// It has room for a number of takes, of gives and of bytes of gives. A call beyond one of these
+/// rooms is a fault, and from then on it reports nothing. It never waits. Of the rests that it is
+/// asked for it remembers the first, as many as it has room for takes.
 #[derive(Drop)]
 pub struct MemoryWire {
     /// Where what is laid down takes its memory from.
@@ -36,17 +36,17 @@ pub struct MemoryWire {
     taken: Vec<TakeRow>,
     /// The gives so far.
     given: Vec<GiveRow>,
-    /// The bytes of the gives so far, one after the other.
+    /// The bytes of the gives so far, joined in order.
     bytes: Vec<u8>,
     /// The first rests that it was asked for.
     rested: Vec<Rest>,
-    /// How many more bytes of gives find room.
+    /// How many more bytes of gives have room.
     byte_room: usize,
     /// How often it has failed, at most 2^64 - 1.
     failures: u64,
     /// The latest give at which it failed; None before the first.
     refusal: Option<Refusal>,
-    /// Whether it tells its takes and gives: no call was beyond its rooms.
+    /// Whether it reports its takes and gives: no call was beyond its rooms.
     tells: bool,
 }
 
@@ -88,11 +88,11 @@ impl MemoryWire {
     ghost use Rattle.trdp_daemon.specs.MemoryWires.{is_give_beyond, with_failing_give};
     ghost use Rattle.trdp_daemon.specs.MemoryWires.{with_failing_take};
 
-    /// A wire over which nothing arrives yet, with room for so many takes, gives, and bytes of
+    /// A wire over which nothing arrives yet, with room for that many takes, gives, and bytes of
     /// gives.
     ///
     /// # Errors
-    /// Want of memory for these.
+    /// `AllocError` where an allocation for these fails.
     pub fn new(
         alloc: Global,
         takes: usize,
@@ -131,7 +131,7 @@ impl MemoryWire {
         })
     }
 
-    /// The bytes of all that it was given, one after the other.
+    /// The bytes of all that it was given, joined in order.
     pub fn bytes(&self) -> &[u8]
         ensures { result.now ≡ flat_map (λ give. give.offer.bytes) self.now.gives }
     {
@@ -152,11 +152,11 @@ impl MemoryWire {
         &self.rested
     }
 
-    /// Lays down that a datagram arrives at that take at the port, counted from 1; of two for one
-    /// take the first stands.
+    /// Lays down that a datagram arrives at the port at the take of that number, from 1; of two
+    /// for one take the first arrives.
     ///
     /// # Errors
-    /// Want of memory for it.
+    /// `AllocError` where an allocation for it fails.
     pub fn arrive(
         &mut self,
         port: Port,
@@ -186,7 +186,7 @@ impl MemoryWire {
     /// arrive at it never comes.
     ///
     /// # Errors
-    /// Want of memory for it.
+    /// `AllocError` where an allocation for it fails.
     pub fn fail_take(&mut self, number: usize) -> Result<(), AllocError>
         ensures laid_down { OnOk result (self.new ≡ with_failing_take self.old number) }
         ensures kept { OnErr result (self.new ≡ self.old) }
@@ -198,7 +198,7 @@ impl MemoryWire {
     /// Lays down that the give of that number fails, counted from 1 over all ports.
     ///
     /// # Errors
-    /// Want of memory for it.
+    /// `AllocError` where an allocation for it fails.
     pub fn fail_give(&mut self, number: usize) -> Result<(), AllocError>
         ensures laid_down { OnOk result (self.new ≡ with_failing_give self.old number) }
         ensures kept { OnErr result (self.new ≡ self.old) }
@@ -207,7 +207,7 @@ impl MemoryWire {
         Ok(())
     }
 
-    /// Whether the next give, of so many bytes, is beyond its rooms.
+    /// Whether the next give, of that many bytes, is beyond its rooms.
     #[tactic(auto, unfolding(crate::specs::MemoryWires::is_give_beyond))]
     fn is_give_beyond(&self, len: usize) -> bool
         ensures beyond { result ≡ is_give_beyond self.now len }

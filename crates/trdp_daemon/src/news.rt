@@ -3,8 +3,7 @@
 ghost use Rattle.std.specs.Prelude.{◌≡◌, slice_set, true};
 ghost use Rattle.trdp_daemon.specs.News.{has_news, with_news};
 
-/// Whether there are news of the socket of that number; there always are of one of which none are
-/// kept.
+/// Whether there are news of the socket of that number; always true of one of which none are kept.
 pub(crate) fn has_news(news: &[bool], socket: usize) -> bool
     ensures { result ≡ has_news news.now socket }
 {

@@ -14,7 +14,7 @@ use trdp_base::Place;
 pub struct Offers<'a> {
     /// Where each left from, where it went, and how many bytes it has.
     given: &'a [GiveRow],
-    /// The bytes of these, one after the other.
+    /// The bytes of these, joined in order.
     bytes: &'a [u8],
 }
 
@@ -31,7 +31,7 @@ impl<'a> Model for Offers<'a> {
 }
 
 impl<'a> Offers<'a> {
-    /// The datagrams of these rows, whose bytes lie one after the other.
+    /// The datagrams of these rows, whose bytes are joined in order.
     pub(crate) fn new(given: &'a [GiveRow], bytes: &'a [u8]) -> Offers<'a>
         requires { bytes_in given.now ≡ length bytes.now }
         ensures { result ≡ map (λ give. give.offer) (gives_of bytes.now given.now) }

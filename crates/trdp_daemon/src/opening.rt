@@ -20,9 +20,9 @@ use trdp_dataset::NodeConfig;
 /// What is asked for a port.
 #[derive(Clone, Copy)]
 pub(crate) enum PortRequest {
-    /// That its socket is bound at its place.
+    /// Its socket is bound at its place.
     Bind,
-    /// That a wait ends when a datagram comes there, which may take memory.
+    /// A wait ends when a datagram comes there; this may allocate.
     Watch(Global),
 }
 
@@ -68,8 +68,8 @@ pub(crate) fn bind_network<S: Sockets>(
     ask_for_network(sockets, config, PortRequest::Bind)
 }
 
-/// Binds the sockets of process data and message data, at the node's address and at the groups', and
-/// then has waits end when a datagram comes at one of them.
+/// Binds the sockets of process data and message data, at the node's address and at the groups',
+/// and then has waits end when a datagram comes at one of them.
 ///
 /// # Errors
 /// At the first call that is refused: its fault.

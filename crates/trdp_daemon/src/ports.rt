@@ -12,7 +12,7 @@ use trdp_dataset::NodeConfig;
 /// The ports of a turn, in its order.
 ///
 /// # Errors
-/// Want of memory for their list.
+/// `AllocError` where an allocation for their list fails.
 pub(crate) fn ports_of(alloc: Global, config: &NodeConfig) -> Result<Vec<Port>, AllocError>
     ensures { IfOk result (λ ports. ports.items ≡ ports_of config.now) }
 {
@@ -37,7 +37,8 @@ fn push_groups(ports: &mut Vec<Port>, groups: &[u32]) -> Result<(), AllocError>
 }
 
 /// The number of the control port of a slot: of one that the configuration has, or of one that is
-/// added behind these; None where none is named for it.
+/// added after these. 0 is no port; None where the configuration names neither the slot nor a
+/// spare port for it.
 pub fn control_number(config: &NodeConfig, slot: usize) -> Option<u16>
     ensures { result ≡ slice_get (control_numbers config.now) slot }
 {

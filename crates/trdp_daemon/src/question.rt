@@ -19,8 +19,8 @@ use trdp_script::Question;
 /// The most bytes of an answer: those of a datagram in one frame of Ethernet.
 pub(crate) const ANSWER_ROOM: usize = 1_472;
 
-/// Puts the answer to a question in place of what the list holds, by these totals and this reading
-/// of the clock.
+/// Puts the answer to a question in place of what the list holds, with these totals and this
+/// reading of the clock.
 #[tactic(auto, unfolding(crate::specs::Questions::text_of_question))]
 pub(crate) fn put_answer(
     text: &mut Vec<u8>,

@@ -1,4 +1,4 @@
-//! What a rest comes to.
+//! What a rest does.
 
 ghost use Rattle.std.specs.Prelude.{◌≡◌};
 ghost use Rattle.trdp_daemon.specs.RestSteps.{busy_step, idle_step, is_rest, rest_left, step_of};
@@ -7,25 +7,26 @@ ghost use Rattle.trdp_daemon.specs.RestSteps.{wait_in};
 /// How much earlier than asked a wait ends, in microseconds: the system comes late.
 const WAKE_TIME: u64 = 200;
 
-/// How many microseconds the system counts its waits by.
+/// The microseconds of one step of the system's waits.
 const WAIT_STEP: u64 = 1_000;
 
-/// What a rest comes to.
+/// What a rest does.
 #[derive(Clone, Copy)]
 pub(crate) enum RestStep {
     /// Nothing: the next turn begins.
     GoOn,
     /// The system is asked for news before the next turn.
     Look,
-    /// A sleep of so many microseconds, behind which the system is asked for news.
+    /// A sleep of that many microseconds, after which the system is asked for news.
     Sleep(u64),
-    /// A wait of so many milliseconds, which news end.
+    /// A wait of that many milliseconds, which news end.
     Wait(u64),
 }
 
 impl RestStep {
-    /// The step of a rest of at most so many microseconds, where something was heard since the rest
-    /// before or not, and a turn without a rest goes on without asking the system for news or not.
+    /// The step of a rest of at most `most` microseconds. `heard` is whether something was heard
+    /// since the rest before, `goes_on` whether a turn without a rest goes on without asking for
+    /// news.
     #[tactic(auto, unfolding(crate::specs::RestSteps::step_of))]
     pub(crate) fn of(heard: bool, most: u64, goes_on: bool) -> RestStep
         ensures { result ≡ step_of heard most goes_on }
@@ -47,7 +48,7 @@ impl RestStep {
         }
     }
 
-    /// How many milliseconds the system is asked for news, if it is.
+    /// How many milliseconds the system is asked for news; None where it isn't asked.
     pub(crate) fn wait(self) -> Option<u64>
         ensures { result ≡ wait_in self }
     {
@@ -59,8 +60,8 @@ impl RestStep {
     }
 }
 
-/// How much is left of a rest of at most so many microseconds that begins at this reading of the
-/// clock, where the one before ended at that: the turn between them has used the rest of it.
+/// What is left of a rest of at most `most` microseconds that begins at the reading `began`, where
+/// the one before ended at `ended`: the turn between them has used some of it.
 pub(crate) fn rest_left(ended: Option<u64>, began: u64, most: u64) -> u64
     ensures { result ≡ rest_left ended began most }
 {
@@ -70,7 +71,7 @@ pub(crate) fn rest_left(ended: Option<u64>, began: u64, most: u64) -> u64
     }
 }
 
-/// The step of a turn without a rest, which goes on without asking the system for news or not.
+/// The step of a turn without a rest: `goes_on` is whether it goes on without asking for news.
 fn busy_step(goes_on: bool) -> RestStep
     ensures { result ≡ busy_step goes_on }
 {
@@ -81,7 +82,7 @@ fn busy_step(goes_on: bool) -> RestStep
     }
 }
 
-/// The step of a rest of at most so many microseconds.
+/// The step of a rest of at most `most` microseconds.
 fn idle_step(most: u64) -> RestStep
     ensures { result ≡ idle_step most }
 {

@@ -30,35 +30,35 @@ use std::{io, time};
 use trdp_base::Place;
 use trdp_dataset::NodeConfig;
 
-/// How many microseconds there may be without a rest: a quarter of what the unit's limit lets a
-/// process of a real-time policy run without one.
+/// The most microseconds without a rest: a quarter of what the unit's limit lets a process of a
+/// real-time policy run without one.
 const BREATHLESS: u64 = 50_000;
 
-/// How many microseconds a sleep has that begins such a limit anew.
+/// The microseconds of a sleep after which that limit starts again.
 const BREATH: u64 = 50;
 
 /// The UDP ports of a node, which wait in a rest alone: until something comes at one of them, by
-/// whole milliseconds, and asleep in the last one. It tells no takes and gives; what it makes of
-/// the calls of its sockets its contracts say.
+/// whole milliseconds, and asleep in the last one. It reports no takes and gives; its contracts
+/// say what it makes of the calls of its sockets.
 ///
 /// It asks the system only at ports of which there are news. No arrival is missed by that. The
-/// system is asked to tell of each arrival (the edge of epoll) before the first take, when there
-/// are news of each port. They end at a take that found nothing. What arrives before that take is
-/// found by it; what arrives behind it is an edge, which the next wait tells, whether it had begun
-/// before or not; and what the system tells twice is taken once. A wait comes in each rest that
-/// isn't cut short, and in each turn that has none but the first behind a rest.
+/// system is asked to report each arrival (the edge of epoll) before the first take, when there
+/// are news of each port. News end at a take that found nothing. What arrives before that take is
+/// found by it. What arrives after it is an edge, which the next wait reports, whether it had
+/// begun before or not. What the system reports twice is taken once. A wait comes in each rest
+/// that isn't cut short, and in each turn that has none but the first after a rest.
 #[derive(Drop)]
 pub struct RestingWire<S, C> {
     /// The ports.
     pub(crate) wire: UdpWire<S>,
-    /// What it sleeps by.
+    /// The clock that it reads and sleeps by.
     pub(crate) clock: C,
     /// For the number of each socket, whether something may be there.
     pub(crate) news: [bool; SOCKETS_MAX],
     /// Whether something came or failed at a take since the latest rest.
     pub(crate) heard: bool,
-    /// Whether a turn without a rest goes on without asking the system for news: the first behind a
-    /// rest does, so that what comes alone costs no call more.
+    /// Whether a turn without a rest goes on without asking the system for news. The first after a
+    /// rest does, so that something that comes alone costs no more calls.
     pub(crate) goes_on: bool,
     /// The reading of the clock when news were asked for the first time without a rest; None where
     /// none were since the latest rest.
@@ -107,7 +107,7 @@ impl<'a, R: Net + time::Clock> RestingWire<SystemSockets<'a, R>, RunClock<'a, R>
         }
     }
 
-    /// Where the system is asked to tell of something else too, by the number of the socket of its
+    /// Where the system is asked to report something else too, by the number of the socket of its
     /// port (`socket_of`); None where it never waits.
     ///
     /// # Errors
@@ -201,7 +201,7 @@ impl<S: Sockets, C: Clock + Drop> RestingWire<S, C> {
         self.wire.sockets()
     }
 
-    /// What it sleeps by.
+    /// The clock that it reads and sleeps by.
     pub fn clock(&self) -> &C
         ensures { result.now ≡ self.now.clock }
     {
@@ -229,8 +229,9 @@ impl<S: Sockets, C: Clock + Drop> RestingWire<S, C> {
         }
     }
 
-    /// Sleeps for a moment where there was no rest for long up to this reading of the clock, so that
-    /// a flood neither has the system end the daemon nor leaves nothing of its processor to others.
+    /// Sleeps for 50 microseconds where there was no rest for 50 milliseconds up to this reading
+    /// of the clock, so that a flood neither has the system end the daemon nor leaves nothing of
+    /// its processor to others.
     fn breathe(&mut self, reading: u64)
         ensures breathes { Breathes reading
             (C.sleeps self.old.clock) (C.sleeps self.new.clock) self.old.busy self.new.busy }
@@ -299,8 +300,8 @@ impl<S: Sockets, C: Clock + Drop> Wire for RestingWire<S, C> {
         ensures groups { self.new.wire.groups ≡ self.old.wire.groups }
         ensures refusal { self.new.wire.refusal ≡ self.old.wire.refusal }
     {
-        // A rest is asked for from the reading of its turn on, which was taken where the rest before
-        // ended: the turn has used some of it.
+        // A rest is asked for from the reading of its turn on, which was taken when the latest
+        // rest had ended: the turn has used some of it.
         let began = self.clock.now();
         let left = rest_left(self.rested, began, most);
         let step = RestStep::of(self.heard, left, self.goes_on);
@@ -346,7 +347,7 @@ impl<S: Sockets, C: Clock + Drop> Wire for RestingWire<S, C> {
     }
 }
 
-/// Whether there was no rest for long up to this reading of the clock.
+/// Whether there was no rest for 50 milliseconds up to this reading of the clock.
 #[tactic(auto, unfolding(crate::specs::RestSteps::is_breathless))]
 fn is_breathless(busy: Option<u64>, reading: u64) -> bool
     ensures { result ≡ is_breathless busy reading }

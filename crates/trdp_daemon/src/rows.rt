@@ -10,16 +10,19 @@ pub(crate) enum TakeAnswer {
     Failed,
     /// No datagram was there.
     Nothing,
-    /// The datagram of that index arrived, of those that were laid down, with so many of its bytes.
+    /// That datagram of those that were laid down arrived, by its index, with that many of its
+    /// bytes.
     Came(usize, usize),
 }
 
 /// One take.
 #[derive(Clone, Copy)]
 pub(crate) struct TakeRow {
+    /// The port that it was at.
     pub(crate) port: Port,
     /// How many bytes it had room for.
     pub(crate) room: usize,
+    /// What it answered.
     pub(crate) answer: TakeAnswer,
 }
 
@@ -32,10 +35,12 @@ pub struct Rest {
     pub most: u64,
 }
 
-/// One give, whose bytes lie in the wire's list behind those of the gives before.
+/// One give. Its bytes follow those of the gives before in the wire's list.
 #[derive(Clone, Copy)]
 pub(crate) struct GiveRow {
+    /// The port that it left from.
     pub(crate) port: Port,
+    /// Where it went.
     pub(crate) to: Place,
     /// How many bytes it has.
     pub(crate) len: usize,

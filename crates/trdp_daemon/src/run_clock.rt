@@ -8,20 +8,20 @@ use crate::clock::Clock;
 use std::time::{Duration, Instant};
 use std::{thread, time};
 
-/// The microseconds since the first moment that the system's clock told. Where that clock fails it
-/// repeats its last number, at first 0. It tells no readings and no sleeps.
+/// The microseconds since the first time that the system's clock gave. Where that clock fails it
+/// repeats its last number, at first 0. It reports no readings and no sleeps.
 #[derive(Drop)]
 pub struct RunClock<'a, R: time::Clock> {
     /// The system, which has the clock.
     rt: &'a R,
-    /// What was told so far.
+    /// The readings so far.
     count: MomentCount,
 }
 
-/// The microseconds since the first moment that was told.
+/// The microseconds since the first time that the system's clock gave.
 #[derive(Clone, Copy)]
 struct MomentCount {
-    /// The first moment that was told; None before.
+    /// The first time that it gave; None before.
     start: Option<Instant>,
     /// The last number.
     last: u64,
@@ -64,7 +64,7 @@ impl<'a, R: time::Clock> Clock for RunClock<'a, R> {
 }
 
 impl MomentCount {
-    /// The number of a moment, or of a reading at which the clock told none.
+    /// The number of a time, or of a reading at which the system's clock gave none.
     fn read(&mut self, moment: Option<Instant>) -> u64
         ensures { Reads self.old self.new moment result }
     {
@@ -77,7 +77,7 @@ impl MomentCount {
     }
 }
 
-/// The microseconds from one moment to another, at most 2^64 - 1.
+/// The microseconds from one time to another, at most 2^64 - 1.
 fn micros_between(start: Instant, moment: Instant) -> u64
     ensures { result ≡ micros_between start moment }
 {

@@ -9,8 +9,8 @@ use crate::ports::control_number;
 use trdp_base::{Ip, Place};
 use trdp_dataset::NodeConfig;
 
-/// Where the socket of a port is bound: at the node's address or a group's or, where lines come to
-/// it, at the control address; at number 0 where the configuration names none.
+/// Where the socket of a port is bound: at the node's address, at a group's, or where lines come
+/// to it at the control address; at number 0 where the configuration names none.
 pub(crate) fn place_of_port(config: &NodeConfig, port: Port) -> Place
     ensures { result ≡ place_of_port config.now port }
 {
@@ -30,7 +30,7 @@ pub(crate) fn place_of_port(config: &NodeConfig, port: Port) -> Place
     Place { ip, port }
 }
 
-/// The place of a group's address, in host order, and a port of that number.
+/// The socket address of a group's address, in host order, and a port of that number.
 pub(crate) fn group_place(group: u32, port: u16) -> Place
     ensures { result ≡ group_place group port }
 {

@@ -1,4 +1,5 @@
-//! A node, and when and from where its slots were heard; what a take at one of the ports comes to.
+//! A node, and when and from where its slots' lines came; the effect of a take at one of the
+//! ports.
 
 ghost use Rattle.std.specs.Prelude.{◌≡◌, ◌<◌, ◌≤◌, ◌∷◌, [], length, false};
 ghost use Rattle.std.specs.Prelude.{IfOk, IfErr, OnOk, OnErr};
@@ -38,32 +39,34 @@ use trdp_script::{OperatorLine, Question, read_control_event, read_operator};
 /// event.
 #[derive(Drop)]
 pub(crate) struct Service {
+    /// The node.
     pub(crate) node: Node,
     /// Where telegrams go to at the node.
     pub(crate) home: Home,
-    /// The latest line of the slot, for each of the slots that a node has at most; None before the
-    /// first.
+    /// The latest line of each of the slots that a node has at most; None before the first, and
+    /// from the end of an application or of its lease up to the next.
     pub(crate) contacts: Vec<Option<Contact>>,
     /// The reading of the clock of the latest turn, in microseconds; 0 before the first.
     pub(crate) reading: u64,
-    /// How many microseconds the application of a slot may be silent; None where it may for ever.
+    /// How many microseconds the application of a slot may be silent; None is no bound.
     pub(crate) lease: Option<u64>,
     /// The records of one event.
     records: Outbox,
-    /// The answer to a slot that began anew. It has room for one from the start, so that no such
-    /// call is ever lost.
+    /// The answer to the reset of a slot. It has room for one from the start, so that no such call
+    /// is ever lost.
     pub(crate) resets: Outbox,
     /// The line of one record.
     text: Vec<u8>,
-    /// The answer to a question of the operator, with room for any, so that none wants memory.
+    /// The answer to a question of the operator, with room for any, so that none allocates.
     pub(crate) answer: Vec<u8>,
 }
 
 impl Service {
-    /// The service of a configuration before its first event, with a lease of so many microseconds.
+    /// The service of a configuration before its first event, with a lease of that many
+    /// microseconds.
     ///
     /// # Errors
-    /// The configuration comes back for want of memory.
+    /// The configuration comes back where an allocation fails.
     pub(crate) fn new(
         alloc: Global,
         config: NodeConfig,
@@ -129,8 +132,8 @@ impl Service {
         if !is_there {
             return;
         }
-        // Where nothing there would end an application's objects, the wire has to look: the daemon
-        // itself may have been stopped since it was told of news.
+        // Where a take that finds nothing would reset the slot, the wire has to look: the daemon
+        // itself may have been stopped since the system last reported news.
         let anew = self.is_silent_at(port);
         match link.take(port, anew, room) {
             Ok(Some((from, len))) => {
@@ -196,7 +199,7 @@ impl Service {
         }
     }
 
-    /// Takes a datagram that came for the node at that place.
+    /// Takes a datagram that was sent to the node at that socket address.
     fn take_telegram<W: Wire>(
         &mut self,
         kind: Protocol,
@@ -220,9 +223,9 @@ impl Service {
         let _ = self.take_event(&event, link);
     }
 
-    /// Takes a datagram that came to the operator's port. An event's answer goes back behind what
-    /// its records send; one that finds no memory is lost, and has no answer. A question is always
-    /// answered.
+    /// Takes a datagram that came to the operator's port. An event's answer goes back after what
+    /// its records send; one for which an allocation fails is lost, and has no answer. A question
+    /// is always answered.
     fn take_operator<W: Wire>(&mut self, from: Place, bytes: &[u8], link: &mut Link<W>)
         requires sound { IsSoundService self.old }
         ensures sound { IsSoundService self.new }
@@ -245,7 +248,7 @@ impl Service {
         }
     }
 
-    /// Answers a question of the operator. It takes no memory, and changes nothing.
+    /// Answers a question of the operator. It allocates nothing, and changes nothing.
     fn answer_question<W: Wire>(&mut self, question: Question, from: Place, link: &mut Link<W>)
         requires sound { IsSoundService self.old }
         ensures sound { IsSoundService self.new }
@@ -294,12 +297,12 @@ impl Service {
         }
     }
 
-    /// Gives the node an event, and offers what its records send. Answers the event's fault, with
-    /// which the node takes no notice of it, if it has one.
+    /// Lets the node take an event, and offers what its records send. Returns the event's fault if
+    /// the node rejected it, and else None.
     ///
     /// # Errors
-    /// `AllocError` for want of memory, where memory may be wanting: the event is counted, and
-    /// lost.
+    /// `AllocError` where an allocation fails, which it can only where the event may need memory:
+    /// the event is counted, and lost.
     pub(crate) fn take_event<W: Wire>(
         &mut self,
         event: &Event<'_>,
@@ -344,8 +347,8 @@ impl Service {
         }
     }
 
-    /// Lets a slot begin anew, and offers its answer, for which there always is room. Answers the
-    /// event's fault, with which the node takes no notice of it: that it has no such slot.
+    /// Resets a slot, and offers its answer, for which there always is room. Returns None, or the
+    /// event's fault where the node has no such slot and rejects it.
     fn take_reset<W: Wire>(&mut self, slot: u16, link: &mut Link<W>) -> Option<NodeFault>
         requires sound { IsSoundService self.old }
         ensures sound { IsSoundService self.new }

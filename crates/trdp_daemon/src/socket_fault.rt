@@ -11,11 +11,11 @@ pub(crate) const NO_WAY: SocketFault = SocketFault {
     code: Some(NETWORK_UNREACHABLE),
 };
 
-/// A socket couldn't take or give a datagram. As text it is what the system calls its error.
+/// A socket can't take or give a datagram. As text it is what the system calls its error.
 #[derive(Clone, Copy, Debug, PartialEq, Eq)]
 pub struct SocketFault {
-    /// The system's number of its error (errno); None where it has none, as where only a part of
-    /// the datagram was sent, or no socket has the number that was called.
+    /// The system's number of its error (errno); None where it has none, for example where only a
+    /// part of the datagram was sent, or no socket has the number that was called.
     pub code: Option<i32>,
 }
 

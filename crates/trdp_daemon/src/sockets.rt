@@ -10,20 +10,21 @@ use crate::socket_fault::SocketFault;
 use std::alloc::Global;
 use trdp_base::Place;
 
-/// The datagram sockets of a system. Who binds one gives it a number, and calls it by that
-/// (profile). No call waits but `wait`. They may tell what was asked of them.
+/// The datagram sockets of a system. The caller that binds one gives it a number, and names it by
+/// that (profile). No call waits but `wait`. They may report what was asked of them.
 pub trait Sockets {
     ghost use Rattle.std.specs.Prelude.{List, Option};
     ghost use Rattle.trdp_daemon.specs.Sockets.{SocketCall};
 
-    /// What was asked of them, in order, with the answers; none where these sockets don't tell.
+    /// What was asked of them, in order, with the answers; none where these sockets report
+    /// nothing.
     ghost calls: { Self → Option (List SocketCall) };
 
-    /// Binds a socket at a place of this machine; where there is a time to live, what it sends has
-    /// that, to a group too.
+    /// Binds a socket at a socket address of this machine. Where there is a time to live, what it
+    /// sends has that, to a group too; None leaves the system's.
     ///
     /// # Errors
-    /// `OutOfMemory` where there is no memory for it, and else `Bind`.
+    /// `OutOfMemory` where an allocation for it fails, and else `Bind`.
     fn bind(&mut self, socket: usize, place: Place, ttl: Option<u8>) -> Result<(), BindFault>
         ensures { TellsMore (calls self.old) (calls self.new)
             (Binds socket place ttl (fault_of result) ∷ []) };
@@ -42,7 +43,7 @@ pub trait Sockets {
         ensures told { TellsMore (calls self.old) (calls self.new)
             (TakesFrom socket (length room.new) (arrived_in result room.new) ∷ []) };
 
-    /// Sends a datagram from a socket to a place.
+    /// Sends a datagram from a socket to a socket address.
     ///
     /// # Errors
     /// `SocketFault`, where the system refuses it.
@@ -53,14 +54,14 @@ pub trait Sockets {
     /// From now on a wait ends when a datagram comes at a socket.
     ///
     /// # Errors
-    /// `OutOfMemory` where there is no memory for it, and else `Bind`.
+    /// `OutOfMemory` where an allocation for it fails, and else `Bind`.
     fn watch(&mut self, alloc: Global, socket: usize) -> Result<(), BindFault>
         ensures { TellsMore (calls self.old) (calls self.new)
             (Watches socket (fault_of result) ∷ []) };
 
-    /// Waits until something comes at one of the sockets that are watched, or came there since it
-    /// was told the last time, at most so many milliseconds; and tells where, by the places of
-    /// their numbers among the news.
+    /// Waits at most `millis` milliseconds, until something comes at one of the sockets that are
+    /// watched, or came there since the last report of it. Sets the news of each socket at which
+    /// something came, at the index of its number.
     fn wait(&mut self, millis: u64, news: &mut [bool])
         ensures { WaitsForNews millis (calls self.old) (calls self.new) news.old news.new };
 }

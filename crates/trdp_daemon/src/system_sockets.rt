@@ -1,6 +1,6 @@
 //! The sockets of the system.
 //!
-//! What the system does at a call no contract can say: each call here is one of its own, with no
+//! No contract says what the system does at a call. Each call here is one of the system's, with no
 //! more than what names its arguments and its answer. They are tested over loopback.
 
 ghost use Rattle.std.specs.Prelude.{◌≡◌, ◌*◌, ℕ, List, map};
@@ -28,27 +28,27 @@ use trdp_base::{Ip, Place};
 /// each of 32 groups.
 pub(crate) const SOCKETS_MAX: usize = 98;
 
-/// How many sources the system tells of at one wait. It is more than a node has, so that one wait
-/// tells of all that came before it: its sockets, or 66 of these, 32 paths and what is open there.
+/// How many sources the system reports at one wait. It is more than a node has, so that one wait
+/// reports all that came before it: its sockets, or 66 of these, 32 paths and what is open there.
 const EVENTS: usize = 256;
 
-/// The UDP sockets of the system. They tell nothing.
+/// The UDP sockets of the system. They report nothing.
 #[derive(Drop)]
 pub struct SystemSockets<'a, R: Net> {
     /// The system, which has the network.
     rt: &'a R,
     /// The socket of each number; None where none is bound.
     sockets: [Option<UdpSocket>; SOCKETS_MAX],
-    /// What a wait is made of; None before the first socket that is watched.
+    /// What a wait needs; None before the first socket that is watched.
     waits: Option<Waits>,
 }
 
-/// What a wait is made of, so that none takes memory.
+/// What a wait needs, so that none allocates.
 #[derive(Drop)]
 struct Waits {
-    /// Where the system tells that a datagram came.
+    /// Where the system reports that a datagram came.
     poll: Poll,
-    /// Room for what it tells at one wait.
+    /// Room for what it reports at one wait.
     events: Events<Global>,
 }
 
@@ -62,11 +62,11 @@ impl<'a, R: Net> SystemSockets<'a, R> {
         }
     }
 
-    /// Where the system is asked to end a wait for something else too; None before the first socket
-    /// that is watched.
+    /// Where the system is asked to end a wait for something else too; None before the first
+    /// socket that is watched.
     ///
     /// # Errors
-    /// What the system says to it.
+    /// The system's error.
     pub(crate) fn registry(&self) -> io::Result<Option<Registry>> {
         match &self.waits {
             Some(waits) => Ok(Some(waits.poll.registry().try_clone()?)),
@@ -133,10 +133,10 @@ impl<'a, R: Net> Sockets for SystemSockets<'a, R> {
 }
 
 impl Waits {
-    /// What a wait is made of, with no socket yet.
+    /// What a wait needs, with no socket yet.
     ///
     /// # Errors
-    /// `OutOfMemory` where there is no memory for it, and else `Bind`.
+    /// `OutOfMemory` where an allocation for it fails, and else `Bind`.
     fn new<R: Net>(rt: &R, alloc: Global) -> Result<Waits, BindFault> {
         let Ok(events) = Events::with_capacity(alloc, EVENTS) else {
             return Err(BindFault::OutOfMemory);
@@ -147,10 +147,10 @@ impl Waits {
         }
     }
 
-    /// Has the system tell when a datagram comes at the socket of that number.
+    /// Asks the system to report when a datagram comes at the socket of that number.
     ///
     /// # Errors
-    /// `OutOfMemory` where the system has no memory for it, and else `Bind`.
+    /// `OutOfMemory` where the system is out of memory for it, and else `Bind`.
     fn watch(&self, number: usize, socket: &UdpSocket) -> Result<(), BindFault> {
         let mut source = SourceFd(&socket.as_raw_fd());
         let registry = self.poll.registry();
@@ -160,9 +160,9 @@ impl Waits {
         }
     }
 
-    /// Waits for at most so many milliseconds, and notes of which numbers the system tells. It does
-    /// so once for each arrival that comes after the one it told of before, whether that was taken
-    /// or not.
+    /// Waits for at most `millis` milliseconds, and notes the numbers that the system reports. It
+    /// reports once each arrival that comes after the one it reported before, whether that was
+    /// taken or not.
     fn wait(&mut self, millis: u64, news: &mut [bool])
         ensures { (told : List ℕ) × (news.new ≡ with_news told news.old) }
     {
@@ -181,11 +181,11 @@ fn note_events(news: &mut [bool], events: &Events<Global>)
     }
 }
 
-/// A socket at a place, which never waits. Where there is a time to live, what it sends has that:
-/// the system has one for a single receiver and another for a group.
+/// A socket at a socket address, which never waits. Where there is a time to live, what it sends
+/// has that: the system has one for a single receiver and another for a group.
 ///
 /// # Errors
-/// What the system says to it.
+/// The system's error.
 fn bind_socket<R: Net>(rt: &R, place: Place, ttl: Option<u8>) -> io::Result<UdpSocket> {
     let socket = UdpSocket::bind(rt, SocketAddr::V4(address_of(place)))?;
     socket.set_nonblocking(true)?;
@@ -196,7 +196,7 @@ fn bind_socket<R: Net>(rt: &R, place: Place, ttl: Option<u8>) -> io::Result<UdpS
     Ok(socket)
 }
 
-/// What a take answers to what the system says: nothing where nothing is there, and where a
+/// The answer of a take to what the system says: nothing where nothing is there, and where a
 /// datagram came from IPv6, which comes to none of these sockets.
 fn received(found: io::Result<(usize, SocketAddr)>) -> Result<Option<(Place, usize)>, SocketFault>
     ensures { result ≡ received_of found }
@@ -211,7 +211,7 @@ fn received(found: io::Result<(usize, SocketAddr)>) -> Result<Option<(Place, usi
     }
 }
 
-/// What a give of so many bytes answers to how many of them the system says that it sent.
+/// The answer of a give of `len` bytes to how many of them the system says that it sent.
 fn sent_whole(sent: io::Result<usize>, len: usize) -> Result<(), SocketFault>
     ensures { result ≡ sent_of sent len }
 {
@@ -236,7 +236,7 @@ fn socket_fault(error: &io::Error) -> SocketFault
     }
 }
 
-/// So many milliseconds.
+/// That many milliseconds.
 fn time_of(millis: u64) -> Duration
     ensures { as_nanos result ≡ millis * 1_000_000 }
 {
@@ -253,14 +253,14 @@ fn bind_fault(error: io::Error) -> BindFault
     }
 }
 
-/// A place as the system's address.
+/// A socket address as the system's.
 fn address_of(place: Place) -> SocketAddrV4
     ensures { place_at result ≡ place }
 {
     SocketAddrV4::new(Ipv4Addr::from_bits(place.ip.0), place.port)
 }
 
-/// A system's address as a place.
+/// The system's socket address as ours.
 fn place_at(address: SocketAddrV4) -> Place
     ensures { result ≡ place_at address }
 {

@@ -50,8 +50,8 @@ fn tell_record<W: Wire>(
     }
 }
 
-/// Offers a record's line at the slot's control port. Without a place to send it to it is dropped;
-/// one that finds no memory is counted, and lost.
+/// Offers a record's line at the slot's control port. Without a control place it is dropped; one
+/// for which an allocation fails is counted, and lost.
 fn tell_text<W: Wire>(
     record: &Record<'_>,
     to: Option<Place>,
@@ -71,7 +71,7 @@ fn tell_text<W: Wire>(
     }
 }
 
-/// The control place of a slot, if it has one.
+/// The control place of a slot; None where it has none.
 fn place_of(contacts: &[Option<Contact>], slot: u16) -> Option<Place>
     ensures { result ≡ control_place contacts.now slot }
 {

@@ -1,16 +1,16 @@
 //! What a daemon counts.
 
-/// What a daemon has counted since it was made. Each number stops at 2^64 - 1.
+/// What a daemon has counted since it was made (profile). Each number stops at 2^64 - 1.
 #[derive(Clone, Copy, Debug, PartialEq, Eq)]
 pub struct Totals {
     /// How many datagrams came.
     pub taken: u64,
-    /// How many datagrams were offered to the wire, those that it refused among them.
+    /// How many datagrams were offered to the wire, those included at which it failed.
     pub offered: u64,
-    /// At how many of these the wire failed.
+    /// The number of offered datagrams at which the wire failed.
     pub lost: u64,
-    /// At how many takes the wire failed.
+    /// The number of takes at which the wire failed.
     pub unread: u64,
-    /// How many moments, events, lines and texts were lost for want of memory.
+    /// How many moments, events, lines and texts were lost because an allocation failed.
     pub memory: u64,
 }

@@ -19,15 +19,15 @@ use std::net::Net;
 use trdp_base::Place;
 use trdp_dataset::NodeConfig;
 
-/// How each answer to a datagram begins that is no line of its port.
+/// How each answer begins to a datagram that is no line of its port.
 const FAULT_FRONT: &[u8] = b"line fault ";
 
-/// The UDP ports of a node, which never wait, nor rest. It tells no takes and gives; what it makes
-/// of the calls of its sockets its contracts say.
+/// The UDP ports of a node, which never wait, nor rest. It reports no takes and gives; its
+/// contracts say what it makes of the calls of its sockets.
 ///
 /// At a control port and at the operator's it hands in no datagram that begins with `line fault `:
-/// such a one is an answer, and can't be read as a line. To answer it in turn would let two ports
-/// answer each other for ever.
+/// that is an answer, and can't be read as a line. If it were answered, two ports could answer
+/// each other for ever.
 #[derive(Drop)]
 pub struct UdpWire<S> {
     /// The sockets of the ports.
@@ -42,12 +42,12 @@ pub struct UdpWire<S> {
 
 impl<'a, R: Net> UdpWire<SystemSockets<'a, R>> {
     /// Binds the system's sockets at the ports that a configuration names, as [`UdpWire::open`]
-    /// does. It takes no memory of its own, so that a port which can't be bound is found whatever
-    /// memory is there.
+    /// does. It allocates nothing of its own, so that a port which can't be bound is found
+    /// whatever memory is there.
     ///
     /// # Errors
-    /// At the first port that isn't bound: `OutOfMemory` where the system has no memory for it, and
-    /// else `Bind`.
+    /// At the first port that isn't bound: `OutOfMemory` where the system is out of memory for it,
+    /// and else `Bind`.
     pub fn bind(rt: &'a R, config: &NodeConfig) -> Result<UdpWire<SystemSockets<'a, R>>, BindFault>
         ensures failures { IfOk result (λ wire. wire.failures ≡ 0) }
         ensures refusal { IfOk result (λ wire. wire.refusal ≡ None) }
@@ -59,8 +59,8 @@ impl<'a, R: Net> UdpWire<SystemSockets<'a, R>> {
     }
 
     /// Binds the system's sockets at the ports of process data and message data alone, as
-    /// [`UdpWire::open_network`] does: nothing ever comes at the others. It takes no memory of its
-    /// own.
+    /// [`UdpWire::open_network`] does: nothing ever comes at the others. It allocates nothing of
+    /// its own.
     ///
     /// # Errors
     /// As [`UdpWire::bind`].
@@ -142,7 +142,7 @@ impl<S: Sockets> UdpWire<S> {
         }
     }
 
-    /// Takes the next datagram at a port, and tells too whether something was heard there: a
+    /// Takes the next datagram at a port, and returns too whether something was heard there: a
     /// datagram, also one that isn't handed in, or a failure.
     pub(crate) fn ask(
         &mut self,

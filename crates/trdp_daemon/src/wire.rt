@@ -8,19 +8,19 @@ use crate::port::Port;
 use crate::refusal::Refusal;
 use trdp_base::Place;
 
-/// A wire at the ports of a node. A take and a give never wait; only a rest may. It may tell what
-/// it took and gave.
+/// A wire at the ports of a node. A take and a give never wait; only a rest may. It may report
+/// what it took and gave.
 pub trait Wire {
     ghost use Rattle.std.specs.Prelude.{ℕ, Bool, List, Option};
     ghost use Rattle.trdp_base.specs.declared.place.Place.{Place};
     ghost use Rattle.trdp_daemon.specs.declared.port.Port.{Port};
     ghost use Rattle.trdp_daemon.specs.Told.{Give, Taking};
 
-    /// What each take answered, in order; none where this wire doesn't tell.
+    /// What each take answered, in order; none where this wire reports nothing.
     ghost takings: { Self → Option (List Taking) };
 
-    /// What was given, in order, and whether the wire failed at it; none where this wire doesn't
-    /// tell.
+    /// What was given, in order, and whether the wire failed at it; none where this wire reports
+    /// nothing.
     ghost gives: { Self → Option (List Give) };
 
     /// How often the wire has failed.
@@ -45,7 +45,7 @@ pub trait Wire {
         ensures gives_nothing { TellsMore (gives self.old) (gives self.new) [] }
         ensures fault { OnErr result (faults self.old < faults self.new) };
 
-    /// Sends a datagram from a port to a place.
+    /// Sends a datagram from a port to a socket address.
     ///
     /// # Errors
     /// `WireFault`, where the wire fails; its failures rise then.
@@ -55,23 +55,23 @@ pub trait Wire {
         ensures takes_nothing { TellsMore (takings self.old) (takings self.new) [] }
         ensures fault { OnErr result (faults self.old < faults self.new) };
 
-    /// Waits until a datagram may be at one of the ports, at most so many microseconds. A wire may
-    /// come back at once, as one does that has no rest of its own: a rest changes nothing of what
-    /// is taken and given.
+    /// Waits until a datagram may be at one of the ports, at most that many microseconds. A wire
+    /// may come back at once, as one does that has no rest of its own: a rest changes nothing of
+    /// what is taken and given.
     fn rest(&mut self, _most: u64)
         ensures takes_nothing { takings self.new ≡ takings self.old }
         ensures gives_nothing { gives self.new ≡ gives self.old }
         ensures fault { faults self.new ≡ faults self.old }
     {}
 
-    /// Whether something may be at a port: it may, unless a take found nothing there and the system
-    /// has told no news since.
+    /// Whether something may be at a port: it may, unless a take found nothing there and the
+    /// system has reported no news since.
     fn has_news(&self, port: Port) -> bool
         ensures { result ≡ news self.now port };
 
-    /// Whether the application of a port that was at a place has ended, as where its connection is
-    /// over: then what a take hands in from there stands for that end, and nobody is there who
-    /// could be told.
+    /// Whether the application of a port that was at a place has ended, for example because its
+    /// connection is over. Then what a take hands in from there is that end, and no one is there
+    /// who could be informed.
     fn has_ended(&self, port: Port, place: Place) -> bool
         ensures { result ≡ ended self.now port place };
 

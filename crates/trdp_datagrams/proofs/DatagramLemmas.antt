@@ -1,4 +1,4 @@
--- Lemmas on what the objects that were noted make of a telegram.
+-- Lemmas on what the objects that were noted do with a telegram.
 pub mod Deeds
 pub mod Taken
 pub mod Requests

@@ -1,4 +1,4 @@
--- The objects that a telegram may be for as far as comId and session tell, and how many there are.
+-- The objects that a telegram may be for according to comId and session, and how many there are.
 use Rattle.std.specs.Prelude.{ℕ, ◌==◌, ◌||◌, List}
 use Rattle.std.specs.Prelude.{count_by, sum_by, Option, Some, None, Bool, true, false}
 use Rattle.trdp_head.specs.declared.md.MdHead.{MdHead}
@@ -35,8 +35,8 @@ abbrev pub is_of_any : AnyObject → Bool
 is_of_any (Listener l) = is_any l.filter.com_id
 is_of_any object = false
 
--- a message of this type may be for the object, as far as comId and session tell: a notification
--- or request for one of its comId and for a listener of any, all others for a caller or replier of
+-- a message of this type may be for the object, according to comId and session: a notification or
+-- request for one of its comId and for a listener of any, all others for a caller or replier of
 -- its session
 abbrev pub is_meant_as : MdKind → MdHead → AnyObject → Bool
 is_meant_as message.Notify head object = is_of_com head.com_id object || is_of_any object
@@ -46,7 +46,7 @@ is_meant_as message.Query head object = is_of_session head.session object
 is_meant_as message.Confirm head object = is_of_session head.session object
 is_meant_as message.Error head object = is_of_session head.session object
 
--- a telegram may be for the object, as far as comId and session tell: process data for one of its
+-- a telegram may be for the object, according to comId and session: process data for one of its
 -- comId, a pull request for one of the comId that it asks for
 abbrev pub is_meant : TelegramModel → AnyObject → Bool
 is_meant (PdIs src dst telegram) object = is_of_com (sought_by telegram.head) object

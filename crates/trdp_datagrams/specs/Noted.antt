@@ -5,7 +5,7 @@ use Rattle.trdp_filter.specs.Telegrams.{TelegramModel}
 use Rattle.trdp_model.specs.Slots.{Entry, SlotState}
 use Rattle.trdp_model.specs.Datagrams.{acting}
 
--- an object that is to act, by its slot and its handle there
+-- an object that will act, by its slot and its handle there
 pub record Addressed : Type 0 where
   pub slot : ℕ
   pub handle : ℕ

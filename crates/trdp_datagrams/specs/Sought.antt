@@ -56,7 +56,7 @@ abbrev pub noted_rows : TelegramModel → Globals → TableState → List ComRow
 noted_rows telegram globals table rows =
     flat_map (λ row. noted_as row.slot (hit telegram globals table row)) rows
 
--- the lesser of two handles that there may be
+-- the lesser of two handles, each of which may be None
 abbrev pub earlier : Option ℕ → Option ℕ → Option ℕ
 earlier None b = b
 earlier (Some a) None = Some a
@@ -89,13 +89,13 @@ abbrev pub noted_listener : ℕ → Option ℕ → List Addressed
 noted_listener s None = []
 noted_listener s (Some handle) = record { slot = s; handle = handle } ∷ []
 
--- room for what it may give
+-- room for what it may record
 abbrev pub listener_room : Option ℕ → Room
 listener_room None = record { rows = 0; bytes = 0 }
 listener_room (Some handle) = record { rows = 1; bytes = md_payload_limit }
 
--- the session of a message of this type, and what an object that it is for is there; those that
--- come unasked are for listeners
+-- the session of a message of this type, and the role there of an object that it is for; messages
+-- that come unasked are for listeners
 abbrev pub part_as : MdKind → SessionId → Option (SessionId × Role)
 part_as message.Notify session = None
 part_as message.Request session = None

@@ -1,5 +1,5 @@
-//! The objects that act at a telegram: each that it is for, but of the listeners of a slot the
-//! first alone.
+//! The objects that act at a telegram: each that it is for, but of the listeners of a slot only
+//! the first.
 
 ghost use Rattle.std.specs.Prelude.{◌≡◌, ◌+◌, ◌*◌, ◌<◌, ◌≤◌, ◌++◌, length};
 ghost use Rattle.std.specs.Prelude.{vec_len, vec_capacity, Some, None, true, slice_index_or};
@@ -32,7 +32,7 @@ use trdp_outbox::Room;
 use trdp_pd::Object;
 use trdp_store::{Counts, Sought, Store};
 
-/// An object that is to act. It is seen as its slot and its handle there: the key that it was found
+/// An object that will act. It is seen as its slot and its handle there: the key that it was found
 /// under saves a search, and decides nothing.
 #[derive(Drop)]
 pub struct Addressee {
@@ -60,7 +60,7 @@ impl Addressee {
         Addressee { slot, handle, key }
     }
 
-    /// Where it is sought.
+    /// The slot, handle and key by which the store looks for it.
     pub fn sought(&self) -> Sought
         ensures slot { result.slot ≡ self.now.slot }
         ensures handle { result.handle ≡ self.now.handle }
@@ -73,8 +73,8 @@ impl Addressee {
     }
 }
 
-/// The session of the telegram, if it is a message that one of its objects awaits, and what that
-/// object is there.
+/// The session of the telegram, if it is a message that an object of the session awaits, and the
+/// role of that object; None for any other telegram.
 fn part_of(telegram: &Telegram<'_>) -> Option<(SessionId, Role)>
     ensures { result ≡ part_of (telegram_model telegram.now) }
 {
@@ -95,16 +95,16 @@ fn part_of(telegram: &Telegram<'_>) -> Option<(SessionId, Role)>
 struct Awaited<'a, 'b> {
     /// The session of the object.
     session: SessionId,
-    /// What it is there.
+    /// The role of the object in the session.
     role: Role,
     /// The message.
     telegram: &'a Telegram<'b>,
-    /// The time, the topology counts and the groups that are led.
+    /// The time, the topology counters and the redundancy groups that the node leads.
     globals: &'a Globals,
 }
 
-/// Notes the object of slot `s` that awaits the message, if it is for it, behind what is noted, and
-/// answers the room for what it may give.
+/// Notes the object of slot `s` that awaits the message, if it is for it, after what is noted, and
+/// returns the room for what it may record.
 fn note_part(
     store: &Store,
     s: u16,
@@ -155,8 +155,8 @@ fn note_part(
     Room::of(object)
 }
 
-/// Notes those of the objects that telegrams look for under a comId that the telegram is for, and
-/// answers the room for what they may give.
+/// Notes those objects of the rows of a comId that the telegram is for, and returns the room for
+/// what they may record.
 fn note_run(
     store: &Store,
     com_id: u32,
@@ -196,8 +196,8 @@ fn note_run(
     room
 }
 
-/// Notes in each slot the object that awaits the message, if it is for it, and answers the room for
-/// what they may give.
+/// Notes in each slot the object that awaits the message, if it is for it, and returns the room
+/// for what they may record.
 fn note_parts(
     store: &Store,
     awaited: &Awaited<'_, '_>,
@@ -232,8 +232,8 @@ fn note_parts(
     room
 }
 
-/// Notes the listener of slot `s` that hears a message, if one does, and answers the room for what
-/// it may give.
+/// Notes the listener of slot `s` that hears a message, if one does, and returns the room for what
+/// it may record.
 fn note_listener(heard: &Heard, s: u16, noted: &mut Vec<Addressee>) -> Room
     requires { vec_len noted.old < vec_capacity noted.old }
     ensures noted { noted.new.items
@@ -256,8 +256,8 @@ fn note_listener(heard: &Heard, s: u16, noted: &mut Vec<Addressee>) -> Room
     }
 }
 
-/// Notes in each slot the listener that hears a message which comes unasked, and answers the room
-/// for what they may give.
+/// Notes in each slot the listener that hears a message which comes unasked (a notification or a
+/// request), and returns the room for what they may record.
 fn note_hearers(
     store: &Store,
     telegram: &Telegram<'_>,
@@ -291,8 +291,8 @@ fn note_hearers(
     room
 }
 
-/// Notes the objects that act at the telegram, by slot and handle, and answers the room for what
-/// they may give. Those of process data, and listeners, are found by the comId, callers and
+/// Notes the objects that act at the telegram, by slot and handle, and returns the room for what
+/// they may record. Those of process data, and listeners, are found by the comId, callers and
 /// repliers by the session. A pull request is for the publishers of the comId that it asks for.
 pub fn note_all(
     store: &Store,

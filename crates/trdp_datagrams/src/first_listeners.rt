@@ -16,7 +16,7 @@ use trdp_index::ComRow;
 use trdp_pd::Object;
 use trdp_store::{Counts, Store};
 
-/// The lesser of two handles that there may be.
+/// The lesser of two handles, each of which may be None; None where both are.
 fn earlier(known: Option<u32>, found: Option<u32>) -> Option<u32>
     ensures { result ≡ earlier known found }
 {
@@ -29,7 +29,7 @@ fn earlier(known: Option<u32>, found: Option<u32>) -> Option<u32>
     }
 }
 
-/// The handle of the object of a row, if the telegram is for it.
+/// The handle of the object of a row, if the telegram is for it; None where it isn't.
 fn handle_hit(
     store: &Store,
     row: &ComRow,
@@ -56,13 +56,13 @@ fn handle_hit(
     }
 }
 
-/// For each of sixteen slots the first object that was found to hear a telegram, if one was. It is
-/// seen as their handles.
+/// For each of 16 slots the first object that was found to hear a telegram, if one was. It is seen
+/// as their handles.
 #[derive(Drop)]
 pub struct Heard {
-    /// The handle of each.
+    /// The handle of each slot's object; None where none was found.
     handles: [Option<u32>; 16],
-    /// The key of each as it was found; where there is no handle it says nothing.
+    /// The key of each object as it was found; where there is no handle it says nothing.
     keys: [usize; 16],
 }
 
@@ -85,7 +85,8 @@ impl Heard {
         }
     }
 
-    /// Notes for a slot what was found under that key, if it comes before what is noted.
+    /// Notes for a slot the handle that was found under that key, if it comes before the noted
+    /// one.
     fn note(&mut self, slot: u16, found: Option<u32>, key: usize)
         requires { slot < 16 }
         ensures { self.new ≡ slice_set self.old slot
@@ -99,7 +100,7 @@ impl Heard {
         self.handles[slot] = first;
     }
 
-    /// The handle that is noted for a slot, if one is, and its key as it was found.
+    /// The handle that is noted for a slot, and its key as it was found; None where none is noted.
     pub fn first(&self, slot: u16) -> Option<(u32, usize)>
         ensures { option_map (λ found. found.0) result ≡ slice_index_or self.now slot None }
     {
@@ -162,8 +163,8 @@ fn hear_run(
     counts.compared(comparisons);
 }
 
-/// For each slot its listener that hears the telegram, if one does. They stand in the runs of the
-/// message's comId and of any.
+/// For each slot its listener that hears the telegram, if one does. Its row is in the run of the
+/// message's comId or in that of any.
 pub fn hearers(
     store: &Store,
     telegram: &Telegram<'_>,

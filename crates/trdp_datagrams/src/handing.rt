@@ -1,4 +1,4 @@
-//! A telegram is handed to the objects that were noted.
+//! The objects that were noted receive a telegram.
 
 ghost use Rattle.std.specs.Prelude.{◌≡◌, ℕ, ◌+◌, ◌*◌, ◌^◌, ◌<◌, ◌≤◌, length, Some, slice_get};
 ghost use Rattle.std.specs.List.{flat_map};
@@ -25,7 +25,7 @@ use trdp_outbox::{Form, Outbox};
 use trdp_pd::{Object, Reason, Taken};
 use trdp_store::{Counts, Deed, Left, Store, count_act};
 
-/// Whether the payload is a value of the object's dataset; where it has none, any will do.
+/// Whether the payload is a value of the object's dataset; where it has none, any payload is.
 fn fits_object(config: &NodeConfig, telegram: &Telegram<'_>, object: &AnyObject) -> bool
     ensures { result ≡ fits_object (setup_of config.now) (telegram_model telegram.now) object.now }
 {
@@ -42,12 +42,13 @@ fn fits_object(config: &NodeConfig, telegram: &Telegram<'_>, object: &AnyObject)
     }
 }
 
-/// That a telegram is handed to an object which it is for.
+/// The deed of a telegram: it is given to an object that it is for.
 #[derive(Clone, Copy)]
 struct Handing<'a, 'b> {
     /// The telegram.
     telegram: &'a Telegram<'b>,
-    /// The datasets, the time, the topology counts and the groups that are led.
+    /// The datasets, the time, the topology counters and the redundancy groups that the node
+    /// leads.
     setting: Setting<'a>,
 }
 
@@ -108,8 +109,8 @@ impl Deed for Handing<'_, '_> {
     }
 }
 
-/// Hands the telegram to each object that was noted, in turn; one that ends leaves the store. That
-/// it tests it by itself is counted, and that it ends as a look-up.
+/// Gives the telegram to each object that was noted, in turn; one that ends leaves the store. Each
+/// object's own filter test is counted, and a look-up for each that ends.
 pub fn take_all(
     store: &mut Store,
     noted: &[Addressee],

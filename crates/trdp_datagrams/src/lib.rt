@@ -1,8 +1,9 @@
-//! A telegram that comes in: the objects that it is for, and what they make of it.
+//! A telegram that comes in: the objects that it is for, and what they do with it.
 //!
-//! [`note_all`] notes the objects that act at a telegram, by slot and handle, in a list that has
-//! room for all ([`Addressee`]), and answers the room for what they may give. Then [`take_all`]
-//! hands each of them the telegram, or [`ask_all`] a request, which is for listeners alone.
+//! [`note_all`] lists the objects that act at a telegram, by slot and handle, each as an
+//! [`Addressee`], and returns the room for what they may record. Then [`take_all`] gives each of
+//! them the telegram, or [`ask_all`] a request, which is for listeners alone. `trdp_engine` uses
+//! them at each datagram.
 //!
 //! ```text
 //! let room = note_all(&store, &telegram, &globals, &mut noted, &mut counts);
@@ -10,9 +11,9 @@
 //! take_all(&mut store, &noted, &telegram, &setting, &mut out, &mut counts);
 //! ```
 //!
-//! The rules are those of `trdp_model`. None of these takes memory; each says what it costs at most
-//! in comparisons, filter tests and look-ups. What no contract says is that each of these is
-//! counted: one that counts fewer meets its contract too.
+//! The rules are those of `trdp_model`. None of these functions takes memory. The contract of each
+//! bounds its cost in comparisons, filter tests and look-ups. No contract says that each of these
+//! is counted: one that counts fewer meets its contract too.
 #![tactic(auto)]
 
 mod addressees;

@@ -1,4 +1,4 @@
-//! What a slot is told of a message that its object took.
+//! What is recorded for a slot of a message that its object received.
 
 ghost use Rattle.std.specs.Prelude.{◌≡◌, ◌≤◌, ◌+◌, ◌++◌};
 ghost use Rattle.trdp_head.specs.Limits.{md_payload_limit};
@@ -12,7 +12,7 @@ use trdp_head::MdKind;
 use trdp_model::{Message, Reply};
 use trdp_outbox::Outbox;
 
-/// Records what the slot of a listener is told of a telegram that it heard.
+/// Records for the slot of a listener the telegram that the listener heard.
 pub fn push_heard(telegram: &Telegram<'_>, handle: u32, s: u16, out: &mut Outbox)
     requires limit { IsWithinLimit (telegram_model telegram.now) }
     requires row { 1 ≤ out.old.row_room }
@@ -29,7 +29,7 @@ pub fn push_heard(telegram: &Telegram<'_>, handle: u32, s: u16, out: &mut Outbox
     }
 }
 
-/// Records what the slot of a caller is told of an answer that the caller took.
+/// Records for the slot of a caller the answer that the caller received.
 pub fn push_replied(telegram: &Telegram<'_>, handle: u32, s: u16, out: &mut Outbox)
     requires limit { IsWithinLimit (telegram_model telegram.now) }
     requires row { 1 ≤ out.old.row_room }

@@ -14,9 +14,9 @@ use trdp_head::{PD_TELEGRAM_MAX, PdHead};
 use trdp_model::AnyObject;
 use trdp_outbox::Outbox;
 
-/// Where a pull request is answered: at its reply address, at the node's own process data port, or
-/// where it has no such address at the place that it came from (profile). A message is no pull
-/// request.
+/// The `Place` that the answer to a pull request is sent to: its reply address with the node's own
+/// process data port, or, where it has no such address, the place that it came from (profile). A
+/// message is no pull request; the result is the place that it came from.
 #[tactic(auto, unfolding(trdp_model::specs::Pulls::answer_place))]
 pub fn answer_place(config: &NodeConfig, telegram: &Telegram<'_>) -> Place
     ensures { result ≡ answer_place (setup_of config.now) (telegram_model telegram.now) }

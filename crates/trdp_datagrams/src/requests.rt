@@ -1,4 +1,4 @@
-//! Requests that come in: what a slot makes of one that its listener hears.
+//! Requests that come in: what a slot does with one that its listener hears.
 
 ghost use Rattle.std.specs.Prelude.{◌≡◌, ℕ, ◌≤◌, ◌<◌, ◌+◌, length, slice_get, Some};
 ghost use Rattle.std.specs.Prelude.{◌*◌, ◌^◌, true};
@@ -22,8 +22,8 @@ use trdp_model::{AnyObject, Kind, Message};
 use trdp_outbox::{Form, Outbox};
 use trdp_store::{Counts, Sought, Store, has_session};
 
-/// Records what a slot makes of a request that its listener heard: it opens a replier, unless one
-/// of the session is open, or tells that it takes none.
+/// Records what a slot does with a request that its listener heard: unless a replier of the
+/// session is open, it opens one, or reports that there is no room for one.
 fn ask(
     store: &mut Store,
     listener: Sought,
@@ -75,7 +75,7 @@ fn ask(
     }
 }
 
-/// Records what the slots make of a telegram that is a request: each that a listener was noted of
+/// Records what the slots do with a telegram that is a request: each slot whose listener was noted
 /// is asked, in turn, and the others stay.
 pub fn ask_all(
     store: &mut Store,

@@ -1,4 +1,4 @@
--- Addresses that stand in an array twice.
+-- Addresses that are in an array twice.
 -- For `has_again`.
 -- By: of the values from one on, the first gives an address or none, and the rest give theirs.
 use Rattle.std.proofs.Common.{◌≡◌, ◌==◌, ◌||◌, ℕ, ◌+◌, ◌<◌, Bool, true, false, map}
@@ -38,8 +38,8 @@ next_given least greatest vs i x inside item =
     ∙ ap (λ y. cons_option (address_within least greatest (view y))
     (given least greatest (drop (i + 1) vs))) (sym item)
 
--- one turn: where the value gives no address, or one that none behind it gives, what is left is
--- whether those behind it give one twice
+-- one turn: where the value gives no address, or one that none after it gives, what is left is
+-- whether those after it give one twice
 pub none_again : (least greatest : ℕ) (vs : List Value) (i : ℕ) (x : Value) (all : Bool)
     → i < length vs → x ≡ get_or vs i x → None ≡ address_within least greatest (view x)
     → has_again (given least greatest (drop i vs)) ≡ all
@@ -67,7 +67,7 @@ other_again least greatest vs i x n all inside item some new so_far =
     (new ∙ any_given least greatest n (drop (i + 1) vs))
     ∙ (sym (opened least greatest vs i x n inside item some) ∙ so_far)
 
--- where one behind it gives it, an address is given twice
+-- where one after it gives it, an address is given twice
 pub one_again : (least greatest : ℕ) (vs : List Value) (i : ℕ) (x : Value) (n : ℕ) (all : Bool)
     → i < length vs → x ≡ get_or vs i x → Some n ≡ address_within least greatest (view x)
     → true ≡ list_any (λ v. gives least greatest n (view v)) (drop (i + 1) vs)

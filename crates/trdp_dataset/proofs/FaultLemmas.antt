@@ -16,7 +16,7 @@ pub fault_moves : (fault : ConfigFault) (one other : Option ConfigFault)
 fault_moves OutOfMemory one other h x = tt
 fault_moves fault one other h x = h fault x
 
--- the fault that a call answered is answered
+-- the fault that a call returned is returned
 pub err_passes : {X : Type 0}
     → (result : Result X ConfigFault) (fault : ConfigFault) (expected : Option ConfigFault)
     → IsErrAnd result (λ f. f ≡ fault) → IsFaultOf fault expected
@@ -25,7 +25,7 @@ err_passes (Ok x) fault expected same h = absurd same
 err_passes (Err f) fault expected same h =
     subst (λ (g : ConfigFault). IsFaultOf g expected) (sym same) h
 
--- an expected fault is answered
+-- an expected fault is returned
 pub fault_comes : (fault : ConfigFault) (expected : Option ConfigFault)
     → expected ≡ Some fault → IsFaultOf fault expected
 fault_comes OutOfMemory expected e = tt
@@ -74,7 +74,7 @@ pub first_stops : (o : Option ConfigFault) (later : List (Option ConfigFault)) (
 first_stops None later fault e = cc
 first_stops (Some f) later fault e = sym e
 
--- the fault that a call answered is answered by the next
+-- the fault that a call returned is returned by the next
 pub err_answers : {X : Type 0}
     → (result : Result X ConfigFault) (fault : ConfigFault) (expected : Option ConfigFault)
     → IsErrAnd result (λ f. f ≡ fault) → IsFaultOf fault expected
@@ -83,7 +83,7 @@ err_answers (Ok x) fault expected same h = absurd same
 err_answers (Err f) fault expected same h =
     subst (λ (g : ConfigFault). IsFaultOf g expected) (sym same) h
 
--- a check without a fault is passed over
+-- a check without a fault is skipped
 pub none_skipped : (faults : List (Option ConfigFault)) (i : ℕ) (d : Option ConfigFault)
     → i < length faults → false ≡ is_some (get_or faults i d)
     → first_fault (drop i faults) ≡ first_fault (drop (i + 1) faults)
@@ -95,7 +95,7 @@ none_skipped faults i d inside none = at_drop_more first_fault faults i d inside
     by None e = refl
     by (Some f) e = cc
 
--- a fault gives nothing
+-- a fault has no value
 pub err_alone : {X : Type 0} → (result : Result X ConfigFault) (P : X → Type 0)
     → IsErr result → IfOk result P
 err_alone (Ok x) P h = cc

@@ -1,4 +1,4 @@
--- Of each dataset whether its values take as many bytes.
+-- Of each dataset whether its values have one length.
 -- For `fixed_datasets`, `form_fixed` and `Registry::fixed_size`.
 -- By a row for each depth, which has an entry for each dataset in order (`LookupLemmas`).
 use Rattle.std.proofs.Common.{◌≡◌, ℕ, zero, suc, Bool, true, false, List, [], ◌∷◌, length}

@@ -1,7 +1,7 @@
 -- The groups of a file without a fault.
 -- For `SlotNumberLemmas`.
--- By: no position of the node has a fault, and each address that is taken is in its range.
-use Rattle.std.proofs.Common.{◌≡◌, ◌==◌, ◌&&◌, ◌≢◌, ◌≤◌, not, ℕ, Bool, true, false, nat_le}
+-- By: no position of the node has a fault, and each address that is kept is in its range.
+use Rattle.std.proofs.Common.{◌≡◌, ◌==◌, ◌&&◌, ◌≢◌, ◌≤◌, ℕ, Bool, true, false, nat_le}
 use Rattle.std.proofs.Common.{nat_lt, List, [], ◌∷◌, length, All, Option, Some, None}
 use Rattle.std.proofs.Common.{IfSome, option_and_then, if◌then◌else◌, refl, arith}
 use Rattle.std.proofs.Common.{leb-true, eq-eqb, ltb-false}
@@ -37,7 +37,7 @@ others n (m ∷ ms) e = All-cons (λ m. n ≢ m) m ms
     (not_there n m (false_left (n == m) (is_among ms n) e))
     (others n ms (false_right (n == m) (is_among ms n) e))
 
--- where none stands there twice, no two are alike
+-- where none is there twice, no two are alike
 apart : (ns : List ℕ) → has_again ns ≡ false → AreApart ns
 apart [] e = λ i j d less within. absurd (omega arith)
 apart (n ∷ ns) e = AllPairs-cons (λ a b. a ≢ b) n ns
@@ -62,7 +62,7 @@ one_within : (P : ℕ → Type 0) (o : Option ℕ) (rest : List ℕ)
 one_within P None rest h later = later
 one_within P (Some n) rest h later = All-cons P n rest h later
 
--- each address that is taken is in the range
+-- each address that is kept is in the range
 all_within : (least greatest : ℕ) (ds : List Data)
     → All (λ m. (least ≤ m) × (m ≤ greatest)) (addresses_among least greatest ds)
 all_within least greatest [] = All-nil (λ m. (least ≤ m) × (m ≤ greatest))
@@ -70,7 +70,7 @@ all_within least greatest (d ∷ ds) = one_within (λ m. (least ≤ m) × (m ≤
     (address_within least greatest d) (addresses_among least greatest ds)
     (range_within least greatest (address_in d)) (all_within least greatest ds)
 
--- where an array has no fault, nothing stands there twice
+-- where an array has no fault, nothing is there twice
 not_again : (key : Key) (again : Bool) (other : Option ConfigFault)
     → again_fault key again other ≡ None → (again ≡ false) × (other ≡ None)
 not_again key again (Some fault) e = absurd (cc)

@@ -1,6 +1,6 @@
 -- The checks of a file, one after the other.
 -- For `load`: a lemma for each way in which it ends.
--- By: a check that finds a fault comes before the later ones, and any other is passed over.
+-- By: a check that finds a fault comes before the later ones, and any other is skipped.
 use Rattle.std.proofs.Common.{◌≡◌, List, [], ◌∷◌, Option, Some, None}
 use Rattle.std.proofs.Common.{map, refl, sym, ap, ◌∙◌, IfSome, subst}
 use Rattle.trdp_dataset.specs.declared.fault.ConfigFault.{ConfigFault}

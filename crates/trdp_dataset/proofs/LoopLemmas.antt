@@ -1,6 +1,6 @@
 -- One turn of a loop over datasets.
 -- For `no_count` and `no_dataset`, and for `SoundLemmas`.
--- By: the dataset at an index stands before those that come after it.
+-- By: the datasets from an index on are the one at the index and those after it.
 use Rattle.std.proofs.Common.{◌≡◌, ◌&&◌, ℕ, ◌+◌, Bool, true, false, cond, List, [], ◌∷◌}
 use Rattle.std.proofs.Common.{◌++◌, drop, Option, Some, None, option_map, refl, sym, ap, ◌∙◌}
 use Rattle.std.specs.Prelude.{find, slice_get}

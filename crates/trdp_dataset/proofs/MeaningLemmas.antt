@@ -21,7 +21,7 @@ unfolding fault_in
 never_toml positions ds e = never_toml_of (least_fault (map fault_at positions))
     (dataset_fault ds) (least_single positions) (dataset_own ds) e
 
--- a call that parsed a file and then answered by its positions and datasets reads what the file
+-- a call that parsed a file and then returned by its positions and datasets reads what the file
 -- means
 pub reads : {A : Type 0} → (meaning : Members → Result A ConfigFault)
     (positions : List PositionModel) (ds : List DatasetModel)

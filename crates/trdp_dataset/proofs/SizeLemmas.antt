@@ -1,4 +1,4 @@
--- Sums of sizes, where every size above a bound is taken for the bound.
+-- Sums of sizes, where every size above a bound is replaced by the bound.
 -- For `form_size`, `entries_size`, `zero_sizes` and `small_sizes`.
 -- By: whatever is added to or multiplied with the bound stays the bound.
 use Rattle.std.proofs.Common.{◌≡◌, ℕ, zero, suc, ◌+◌, ◌*◌, ◌<◌, ◌≤◌, ◌&&◌, nat_le, if◌then◌else◌}

@@ -1,6 +1,6 @@
 -- The slots of a file without a fault, its spare control ports and its groups.
 -- For `NodeConfig::from_toml`.
--- By: no position of such a file has a fault, so arrays are as long as told (`FilledLemmas`).
+-- By: no position of such a file has a fault, so arrays are within bounds (`FilledLemmas`).
 use Rattle.std.proofs.Common.{◌≡◌, ◌≤◌, List, ◌++◌, length, map, None}
 use Rattle.toml.specs.Data.{Members}
 use Rattle.trdp_dataset.specs.Datasets.{DatasetModel}

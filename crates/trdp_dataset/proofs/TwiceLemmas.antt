@@ -60,7 +60,7 @@ or_left a b e = rw e refl
 or_right : (a b : Bool) → b ≡ true → (a || b) ≡ true
 or_right a b e = rw e (or_true a)
 
--- a dataset whose identifier stands before it
+-- a dataset whose identifier an earlier one has
 twice_by : (b : Bool) (x d : DatasetModel) (xs rest : List DatasetModel) → (d.id == x.id) ≡ b
     → is_known (x ∷ xs) d.id ≡ true → (is_known xs d.id ≡ true → has_twice (xs ++ d ∷ rest) ≡ true)
     → (is_known (xs ++ d ∷ rest) x.id || has_twice (xs ++ d ∷ rest)) ≡ true

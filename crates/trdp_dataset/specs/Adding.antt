@@ -1,10 +1,10 @@
--- How datasets are taken up one after the other.
+-- How datasets are added one after the other.
 use Rattle.std.specs.Prelude.{◌≡◌, false, ◌++◌, List, [], ◌∷◌, Option, Some, None, if◌then◌else◌}
 use Rattle.trdp_dataset.specs.declared.fault.ConfigFault.{ConfigFault}
 use Rattle.trdp_dataset.specs.declared.fault.ConfigFault.TheVariants.{TwiceId}
 use Rattle.trdp_dataset.specs.Datasets.{DatasetModel, is_known}
 
--- the dataset, if there is one, was new and stands at the end
+-- the dataset, if there is one, was new and is at the end
 abbrev pub AddsDataset : List DatasetModel → List DatasetModel → Option DatasetModel → Type 0
 AddsDataset old new None = new ≡ old
 AddsDataset old new (Some d) = (is_known old d.id ≡ false) × (new ≡ old ++ d ∷ [])

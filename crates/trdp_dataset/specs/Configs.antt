@@ -50,7 +50,7 @@ addresses_of key (Some d) = filter_map (member_address_in (wanted_by key)) (item
 abbrev pub natural_at : Key → Members → ℕ
 natural_at key members = number_of key (value_at key members)
 
--- an element of that type, of the size that the table gives, or 1
+-- an element of that type, of the size that the table has, or 1
 abbrev pub element_of : Members → ElementKind → Element
 element_of members kind = record { kind = kind; size = natural_at ElementSize members }
 
@@ -89,9 +89,9 @@ slot_config members =
 unfoldable pub slots_in : Members → List SlotModel
 slots_in top = map slot_config (tables_at Slot top)
 
--- the configuration of a node; the spare control ports are those of the slots that are added while
--- the node runs, in their order, the control address is where all control ports are, the groups are
--- addresses in the order of the file, and `ttl` is how many hops a telegram may take
+-- The configuration of a node. The spare control ports are those of the slots that are added while
+-- the node runs, in their order. All control ports are at the control address. The groups are
+-- addresses in the order of the file. A telegram may take at most `ttl` hops.
 pub record ConfigModel : Type 0 where
   pub registry : List DatasetModel
   pub address : ℕ
@@ -156,8 +156,8 @@ registry_of top = unless (registry_fault_of top) (datasets_in top)
 abbrev pub config_of : Members → Result ConfigModel ConfigFault
 config_of top = unless (config_fault_of top) (config_in top)
 
--- what a call read from bytes is what they mean by a function of the table; Toml comes where they
--- are no UTF-8 or no table, and want of memory at any time
+-- what a call read from bytes is what they mean by a function of the table; Toml is the fault of
+-- bytes that are no UTF-8 or no table, and any bytes may give OutOfMemory
 abbrev pub ReadsToml : {A : Type 0} → (Members → Result A ConfigFault) → List ℕ
     → Result A ConfigFault
     → Type 0

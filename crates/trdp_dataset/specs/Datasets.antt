@@ -39,6 +39,7 @@ all_pass test (e ∷ es) = passes test (form_of e.kind) && all_pass test es
 
 -- each array of size 0 comes after an element that counts its items; the first element comes after
 -- one if so said
+-- rule: dataset.counted
 abbrev pub all_counted : Bool → List Element → Bool
 all_counted counted [] = true
 all_counted counted (e ∷ es) = (not (e.size == 0) || counted) && all_counted (is_count e) es

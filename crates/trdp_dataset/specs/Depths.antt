@@ -9,8 +9,9 @@ abbrev pub elements_pass : (ℕ → Bool) → Option (List Element) → Bool
 elements_pass test None = false
 elements_pass test (Some es) = all_pass test es
 
--- a dataset is of depth at most so many: 1 without nested datasets, else one more than the deepest
--- of them
+-- a dataset is of at most that depth: 1 without nested datasets, else one more than the deepest of
+-- them
+-- rule: dataset.depth
 unfoldable pub is_within : List DatasetModel → ℕ → ℕ → Bool
 is_within registry zero id = false
 is_within registry (suc depth) id =

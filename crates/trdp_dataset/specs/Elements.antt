@@ -12,14 +12,15 @@ use Rattle.trdp_dataset.specs.declared.element.ElementKind.TheVariants.{Timedate
 use Rattle.trdp_dataset.specs.declared.element.ElementKind.TheVariants.{Timedate64, Nested}
 use Rattle.trdp_dataset.specs.declared.element.Element.{Element}
 
--- how many bytes a number takes
+-- how many bytes a number has
 abbrev pub width_len : Width → ℕ
 width_len One = 1
 width_len Two = 2
 width_len Four = 4
 width_len Eight = 8
 
--- what a type is, as far as its bytes go
+-- what the bytes of a type are
+-- rule: dataset.form
 abbrev pub form_of : ElementKind → Form
 form_of Bool8 = form.Unsigned One
 form_of Char8 = form.Unsigned One

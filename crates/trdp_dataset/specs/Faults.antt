@@ -31,8 +31,8 @@ abbrev pub wrong_unless : Key → Bool → Option ConfigFault
 wrong_unless key true = None
 wrong_unless key false = Some (WrongType key)
 
--- an array of so many members, of which the key allows at most so many; without any it is as good
--- as none where the key must be there
+-- an array of as many members as the second number says, of which the key allows at most the
+-- first; without any it is as good as none where the key must be there
 abbrev pub count_fault : Key → ℕ → ℕ → Option ConfigFault
 count_fault key most count =
     if is_required key && (count == 0) then Some (Missing key)
@@ -43,19 +43,19 @@ abbrev pub tables_fault : Key → ℕ → Data → Option ConfigFault
 tables_fault key most d =
     if is_tables d then count_fault key most (length (items_in d)) else Some (WrongType key)
 
--- an array of whole numbers in a range, of which the key allows at most so many
+-- an array of whole numbers in a range, of which the key allows at most the first number
 abbrev pub numbers_fault : Key → ℕ → ℕ → ℕ → Data → Option ConfigFault
 numbers_fault key most least greatest d =
     if is_numbers least greatest d then count_fault key most (length (items_in d))
     else Some (WrongType key)
 
--- that something stands twice in an array is a fault where the array has no other
+-- that something is twice in an array is a fault where the array has no other
 abbrev pub again_fault : Key → (again : Bool) → Option ConfigFault → Option ConfigFault
 again_fault key again (Some fault) = Some fault
 again_fault key true None = Some (WrongType key)
 again_fault key false None = None
 
--- an array of addresses in a range, of which the key allows at most so many, none of them twice
+-- an array of addresses in a range, of which the key allows at most the first number, none twice
 abbrev pub addresses_fault : Key → ℕ → ℕ → ℕ → Data → Option ConfigFault
 addresses_fault key most least greatest d =
     if are_addresses least greatest d
@@ -63,7 +63,7 @@ addresses_fault key most least greatest d =
     (count_fault key most (length (items_in d)))
     else Some (WrongType key)
 
--- a quota, of which the key allows at most so many
+-- a quota, of which the key allows at most this number
 abbrev pub quota_fault : Key → ℕ → Option ℕ → Option ConfigFault
 quota_fault key most None = Some (WrongType key)
 quota_fault key most (Some n) = if nat_lt most n then Some TooMany else None
@@ -83,7 +83,7 @@ kind_fault key d =
     if is_type d then (if is_real d then Some Real else bad_unless (is_some (kind_in d)))
     else Some (WrongType key)
 
--- the fault of a value at a key, by what the key wants
+-- the fault of a value at a key, by what the key needs
 abbrev pub value_fault : Key → Wanted → Data → Option ConfigFault
 value_fault key wanted.Table d = wrong_unless key (is_table d)
 value_fault key (wanted.Tables most) d = tables_fault key most d
@@ -120,7 +120,7 @@ rank TooBig = 10
 rank TooMany = 11
 rank OutOfMemory = 12
 
--- of two faults the one of the lower number, and of two of one number the former
+-- of two faults the one of the lower number, and of two of one number the first
 abbrev pub least_of_two : Option ConfigFault → Option ConfigFault → Option ConfigFault
 least_of_two None later = later
 least_of_two (Some fault) None = Some fault
@@ -193,12 +193,12 @@ unfoldable pub fault_in : List PositionModel → List DatasetModel → Option Co
 fault_in positions datasets =
     least_of_two (least_fault (map fault_at positions)) (dataset_fault datasets)
 
--- a fault that comes is the expected one, or memory ran out
+-- a fault that is returned is the expected one, or memory ran out
 abbrev pub IsFaultOf : ConfigFault → Option ConfigFault → Type 0
 IsFaultOf OutOfMemory expected = Unit {0}
 IsFaultOf fault expected = expected ≡ Some fault
 
--- a call succeeds where no fault is expected, and else answers that fault, unless memory runs out
+-- a call succeeds where no fault is expected, and else returns that fault, unless memory runs out
 abbrev pub RefusedAs : {A : Type 0} → Option ConfigFault → Result A ConfigFault → Type 0
 RefusedAs expected (Ok x) = expected ≡ None
 RefusedAs expected (Err fault) = IsFaultOf fault expected

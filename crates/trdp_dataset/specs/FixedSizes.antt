@@ -1,4 +1,4 @@
--- How many bytes each value of a dataset takes, where all of them take as many.
+-- How many bytes each value of a dataset has, where all of them have one length.
 use Rattle.std.specs.Prelude.{ℕ, zero, suc, ◌==◌, ◌&&◌, not, Bool, true, false}
 use Rattle.std.specs.Prelude.{List, [], ◌∷◌, map, Option, Some, None, if◌then◌else◌}
 use Rattle.trdp_dataset.specs.declared.element.Element.{Element}
@@ -16,13 +16,13 @@ abbrev pub elements_fixed : (ℕ → Bool) → Option (List Element) → Bool
 elements_fixed test None = false
 elements_fixed test (Some es) = all_fixed test es
 
--- no array of size 0 stands in a dataset or in those that are nested in it, down to a depth
+-- no array of size 0 is in a dataset or in those that are nested in it, down to a depth
 unfoldable pub is_fixed : List DatasetModel → ℕ → ℕ → Bool
 is_fixed registry zero id = false
 is_fixed registry (suc depth) id =
     elements_fixed (is_fixed registry depth) (elements_of registry id)
 
--- how many bytes each value of a dataset takes, which nests no deeper than 5: without an array of
+-- how many bytes each value of a dataset has, which nests no deeper than 5: without an array of
 -- size 0 as many as the zero value
 unfoldable pub fixed_size : List DatasetModel → ℕ → Option ℕ
 fixed_size registry id = if is_fixed registry 5 id then Some (zero_size registry id) else None

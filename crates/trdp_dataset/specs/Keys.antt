@@ -14,8 +14,8 @@ use Rattle.trdp_dataset.specs.declared.key.Wanted.TheVariants as wanted
 use Rattle.trdp_dataset.specs.declared.key.Absent.{Absent}
 use Rattle.trdp_dataset.specs.declared.key.Absent.TheVariants as absent
 
--- a row of the table: the key as it stands in the file, what its value has to be, and what it
--- means that it isn't there
+-- a row of the table: the key as the file has it, what its value has to be, and what it means that
+-- it isn't there
 pub record KeyRowModel : Type 0 where
   pub text : List ℕ
   pub wanted : Wanted
@@ -51,7 +51,7 @@ key_row Elements = row (codes "element") (wanted.Tables 256) absent.Missing
 key_row ElementType = row (codes "type") wanted.Kind absent.Missing
 key_row ElementSize = row (codes "size") (wanted.Number 0 65535) (absent.Default 1)
 
--- a key as it stands in the file
+-- a key as the file has it
 abbrev pub key_text : Key → List ℕ
 key_text key = (key_row key).text
 
@@ -75,7 +75,7 @@ default_number absent.Empty = 0
 default_number absent.Own = 0
 default_number (absent.Default n) = n
 
--- the number that stands for a key where it isn't there; 0 where no number does
+-- the default of a key that isn't there; 0 where no number is its default
 abbrev pub default_of : Key → ℕ
 default_of key = default_number (key_row key).absent
 

@@ -3,5 +3,6 @@ use Rattle.std.specs.Prelude.{ℕ}
 
 -- the most bytes of a dataset's zero value, and of a value that is sent: what a message carries
 -- (IEC 61375-2-3:2015, Annex A)
+-- rule: dataset.size
 abbrev pub value_limit : ℕ
 value_limit = 65388

@@ -1,5 +1,5 @@
--- The positions of a configuration file, where a key stands or is missing, in the order in which
--- faults are looked for.
+-- The positions of a configuration file, at which a key is present or missing, in the order in
+-- which faults are looked for.
 use Rattle.std.specs.Prelude.{List, [], ◌∷◌, ◌++◌, Option, Some, None, map, option_and_then}
 use Rattle.std.specs.List.{filter_map, flat_map}
 use Rattle.toml.specs.Data.{Data, Members, get_member, as_table}

@@ -7,9 +7,10 @@ use Rattle.trdp_dataset.specs.Depths.{is_within}
 use Rattle.trdp_dataset.specs.Limits.{value_limit}
 use Rattle.trdp_dataset.specs.ZeroSizes.{zero_size}
 
--- identifiers are 31 and above and no two are one, there are at most 256 datasets, a dataset has 1
--- to 256 elements, each dataset that is nested in one is there, each array of size 0 comes after
--- its count, no dataset is of a depth above 5, and each zero value has at most 65388 bytes
+-- Identifiers are 31 and above, and no two are the same. There are at most 256 datasets, and each
+-- has 1 to 256 elements. Each dataset that is nested in one is there. Each array of size 0 comes
+-- after its count. No dataset is of a depth above 5, and each zero value has at most 65388 bytes.
+-- rule: dataset.limit
 pub record IsRegistry (registry : List DatasetModel) : Type 0 where
   pub above : (id : ℕ) → is_known registry id ≡ true → 31 ≤ id
   pub apart : (i j id : ℕ) → option_map (λ d. d.id) (slice_get registry i) ≡ Some id

@@ -14,7 +14,7 @@ datasets_of entries = map (λ e. record { id = e.0; elements = e.1.items }) entr
 abbrev pub zero_sizes_of : List DatasetModel → List ℕ
 zero_sizes_of registry = map (λ d. zero_size registry d.id) registry
 
--- whether each dataset is of depth at most so many, in order
+-- whether each dataset is of at most that depth, in order
 abbrev pub within_row : List DatasetModel → ℕ → List Bool
 within_row registry depth = map (λ d. is_within registry depth d.id) registry
 

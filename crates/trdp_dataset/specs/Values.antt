@@ -27,7 +27,7 @@ unfoldable pub found_below : (ℕ → Bool) → ℕ → Option ℕ
 found_below test zero = None
 found_below test (suc n) = if test n then Some n else found_below test n
 
--- a text is the written form of the address of that number
+-- a text is the written form of the address with that number
 abbrev pub is_written_so : List ℕ → ℕ → Bool
 is_written_so text n = bytes_eq text (text_of_ip (record { 0 = n }))
 
@@ -49,13 +49,13 @@ natural_in _ = None
 abbrev pub natural_within : ℕ → ℕ → Data → Option ℕ
 natural_within least most d = option_and_then (in_range least most) (natural_in d)
 
--- the number that a value is, if a number in this range is wanted
+-- the number that a value is, if a number in this range is expected
 abbrev pub number_in : Wanted → Data → Option ℕ
 number_in (wanted.Number least most) d = natural_within least most d
 number_in (wanted.Quota most) d = natural_within 0 most d
 number_in _ d = None
 
--- the number that a member of an array is, if an array of numbers in this range is wanted
+-- the number that a member of an array is, if an array of numbers in this range is expected
 abbrev pub member_in : Wanted → Data → Option ℕ
 member_in (wanted.Numbers most least greatest) d = natural_within least greatest d
 member_in _ d = None
@@ -64,12 +64,12 @@ member_in _ d = None
 abbrev pub address_within : ℕ → ℕ → Data → Option ℕ
 address_within least greatest d = option_and_then (in_range least greatest) (address_in d)
 
--- the address that a member of an array gives, if an array of addresses in this range is wanted
+-- the address that a member of an array gives, if an array of addresses in this range is expected
 abbrev pub member_address_in : Wanted → Data → Option ℕ
 member_address_in (wanted.Addresses most least greatest) d = address_within least greatest d
 member_address_in _ d = None
 
--- a number is in the range that is wanted
+-- a number is in the range that is expected
 abbrev pub IsAllowed : Wanted → ℕ → Type 0
 IsAllowed (wanted.Number least most) n = (least ≤ n) × (n ≤ most)
 IsAllowed (wanted.Quota most) n = n ≤ most
@@ -86,6 +86,7 @@ kind_in (integer (pos n)) = type_numbered n
 kind_in _ = None
 
 -- a value that names or numbers a real number
+-- rule: dataset.real
 abbrev pub is_real : Data → Bool
 is_real (string name) = is_real_name name
 is_real (integer (pos n)) = is_real_number n
@@ -131,7 +132,7 @@ gives least greatest n d = is_given n (address_within least greatest d)
 abbrev pub is_among : List ℕ → ℕ → Bool
 is_among ns n = list_any (λ m. n == m) ns
 
--- a number stands among these twice
+-- a number is among these twice
 abbrev pub has_again : List ℕ → Bool
 has_again [] = false
 has_again (n ∷ ns) = is_among ns n || has_again ns

@@ -1,4 +1,4 @@
--- How many bytes the values take whose numbers are all 0.
+-- How many bytes the values have whose numbers are all 0.
 use Rattle.std.specs.Prelude.{ℕ, zero, suc, ◌+◌, ◌*◌, List, [], ◌∷◌, unwrap_or}
 use Rattle.trdp_dataset.specs.declared.element.Form.{Form}
 use Rattle.trdp_dataset.specs.declared.element.Form.TheVariants.{Unsigned, Signed}
@@ -20,7 +20,7 @@ unfoldable pub entries_size : (Form → ℕ) → List Element → ℕ
 entries_size size [] = 0
 entries_size size (e ∷ es) = e.size * size (form_of e.kind) + entries_size size es
 
--- the zero value of a dataset down to a depth, below which nothing counts
+-- the zero value of a dataset down to a depth, below which sizes are 0
 unfoldable pub dataset_size : List DatasetModel → ℕ → ℕ → ℕ
 dataset_size registry zero id = 0
 dataset_size registry (suc depth) id =

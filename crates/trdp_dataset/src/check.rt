@@ -70,7 +70,7 @@ pub(crate) fn no_count(datasets: &Datasets) -> Option<ConfigFault>
     None
 }
 
-/// Whether a zero value of so many bytes is small enough.
+/// Whether a zero value of that many bytes is small enough.
 fn is_small(size: u32) -> bool
     ensures { result ≡ nat_le size value_limit }
 {

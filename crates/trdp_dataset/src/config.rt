@@ -57,7 +57,7 @@ pub struct NodeConfig {
     /// The addresses of the groups, in the order of the file, at most 32, each in host order and of
     /// 224.0.0.0 to 239.255.255.255, none there twice.
     groups: Vec<u32>,
-    /// How many hops a telegram that the node sends may take, 1 to 255.
+    /// The time to live of telegrams that the node sends: at most that many hops, 1 to 255.
     ttl: u8,
     /// The application slots in the order of the file, 1 to 16.
     slots: Vec<Slot>,
@@ -223,8 +223,8 @@ impl NodeConfig {
     /// The configuration of a file in TOML.
     ///
     /// # Errors
-    /// The faults of [`ConfigFault`], of which `Toml` says that the bytes aren't UTF-8 or not
-    /// TOML; `OutOfMemory` may come in place of any of them.
+    /// The faults of [`ConfigFault`]; `Toml` is that of bytes that aren't UTF-8 or not TOML. Any
+    /// file may give `OutOfMemory` in place of its own fault.
     pub fn from_toml(alloc: Global, bytes: &[u8]) -> Result<Self, ConfigFault>
         ensures reads { ReadsToml config_of bytes.now result }
     {
@@ -244,7 +244,7 @@ impl NodeConfig {
         &self.registry
     }
 
-    /// The address of the node.
+    /// The IPv4 address of the node.
     pub fn address(&self) -> Ip
         ensures value { result.0 ≡ self.now.address }
     {
@@ -283,23 +283,24 @@ impl NodeConfig {
     }
 
     /// The UDP port for the calls of a slot that is added while the node runs, 0 for none, by its
-    /// place from 0 among the added ones; None where no spare control port is left for it.
+    /// index from 0 among the added ones; None where no spare control port is left for it.
     pub fn spare_control_port(&self, added: usize) -> Option<u16>
         ensures value { result ≡ slice_get self.now.spare_control_ports added }
     {
         self.spare_control_ports.get(added).copied()
     }
 
-    /// The address of the control ports and the operator's port; the node's own where the file
-    /// names no other.
+    /// The IPv4 address of the control ports and the operator's port; the node's own where the
+    /// file names no other.
     pub fn control_address(&self) -> Ip
         ensures value { result.0 ≡ self.now.control_address }
     {
         self.control_address
     }
 
-    /// The addresses of the multicast groups that the node joins, in the order of the file and each
-    /// in host order: at most 32, each of 224.0.0.0 to 239.255.255.255, none there twice.
+    /// The addresses of the multicast groups that the operating system joins for the node, in the
+    /// order of the file, each in host order: at most 32, each of 224.0.0.0 to 239.255.255.255,
+    /// none there twice.
     pub fn groups(&self) -> &[u32]
         ensures value { result.now ≡ self.now.groups }
         ensures most { length result.now ≤ 32 }
@@ -309,7 +310,7 @@ impl NodeConfig {
         &self.groups
     }
 
-    /// The time to live of the telegrams that the node sends: how many hops one may take, 1 to 255.
+    /// The time to live of the telegrams that the node sends: at most that many hops, 1 to 255.
     pub fn ttl(&self) -> u8
         ensures value { result ≡ self.now.ttl }
         ensures least { 1 ≤ result }
@@ -326,7 +327,8 @@ impl NodeConfig {
         self.slots.len()
     }
 
-    /// How many objects a slot may hold; None where there is no such slot.
+    /// How many objects of each kind a slot may hold, by its number from 0; None where there is no
+    /// such slot.
     pub fn quotas(&self, slot: usize) -> Option<Quotas>
         ensures value { result ≡ option_map (λ s. s.quotas) (slice_get self.now.slots slot) }
     {

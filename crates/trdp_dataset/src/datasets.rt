@@ -47,7 +47,7 @@ impl Datasets {
     /// nothing.
     ///
     /// # Errors
-    /// Memory ran out.
+    /// [`AllocError`] where there is no memory.
     pub(crate) fn push(&mut self, id: u32, elements: Vec<Element>) -> Result<bool, AllocError>
         ensures new { IfOk result (λ added. added ≡ true → (is_known self.old id ≡ false)
             × (self.new ≡ self.old ++ record { id = id; elements = elements.items } ∷ [])) }

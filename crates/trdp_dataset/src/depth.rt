@@ -13,7 +13,7 @@ use crate::datasets::Datasets;
 use crate::element::{Element, Form};
 use std::alloc::{AllocError, Global};
 
-/// Whether the dataset that a type is passes; `within` says it of each dataset in order. Basic
+/// Whether the dataset of a nested type passes; `within` says it of each dataset in order. Basic
 /// types pass.
 fn passes(datasets: &Datasets, within: &[bool], form: Form) -> bool
     requires { length within.now ≡ length datasets.now }

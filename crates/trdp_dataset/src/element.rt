@@ -3,7 +3,7 @@
 ghost use Rattle.std.specs.Prelude.{◌≡◌, ◌==◌, ◌&&◌};
 ghost use Rattle.trdp_dataset.specs.Elements.{width_len, form_of, is_count, nested_id};
 
-/// How many bytes a number takes in a telegram (IEC 61375-2-3).
+/// How many bytes a number has in a telegram (IEC 61375-2-3).
 #[derive(Clone, Copy, Debug, PartialEq, Eq)]
 pub enum Width {
     /// 1 byte.
@@ -30,8 +30,8 @@ impl Width {
     }
 }
 
-/// What a type is as far as its bytes go (IEC 61375-2-3). Numbers are big-endian; that values are
-/// packed without alignment is the profile's rule.
+/// What the bytes of a type are (IEC 61375-2-3). Numbers are big-endian; that values are packed
+/// without alignment is the profile's rule.
 #[derive(Clone, Copy, Debug, PartialEq, Eq)]
 pub enum Form {
     /// An unsigned number.
@@ -83,7 +83,7 @@ pub enum ElementKind {
 }
 
 impl ElementKind {
-    /// What the type is as far as its bytes go.
+    /// What the bytes of the type are.
     pub fn form(self) -> Form
         ensures value { result ≡ form_of self }
     {
@@ -110,8 +110,8 @@ impl ElementKind {
 pub struct Element {
     /// The type of its values.
     pub kind: ElementKind,
-    /// How many values it has: 1 is a single value, more an array of so many, and 0 an array of as
-    /// many as the element before it says.
+    /// How many values it has: 1 is a single value, more an array of that many, and 0 an array of
+    /// as many as the element before it says.
     pub size: u16,
 }
 

@@ -1,4 +1,4 @@
-//! Why a configuration isn't taken.
+//! Why a configuration is rejected.
 
 ghost use Rattle.std.specs.Prelude.{◌≡◌};
 ghost use Rattle.trdp_dataset.specs.Faults.{rank, least_of_two};
@@ -7,9 +7,9 @@ use crate::key::Key;
 use std::alloc::AllocError;
 use thiserror::Error;
 
-/// Why a configuration isn't taken (profile). The faults stand in the order of their precedence:
-/// of several in one file the uppermost here counts, and of that one the first position in the
-/// file.
+/// Why a configuration is rejected (profile). The faults are listed in the order of their
+/// precedence: of several in one file the uppermost here counts, and of that one the first
+/// position in the file.
 #[derive(Clone, Copy, Debug, PartialEq, Eq, Error)]
 pub enum ConfigFault {
     /// The bytes aren't UTF-8 or not TOML.
@@ -18,8 +18,8 @@ pub enum ConfigFault {
     /// A required key isn't there, or the array under it is empty.
     #[error("the key {0} is missing, or its array is empty")]
     Missing(Key),
-    /// The value of a key isn't of the kind that the key wants, or is out of range; an array of
-    /// addresses also where one stands there twice.
+    /// The value of a key isn't of the kind that the key needs, or is out of range; an array of
+    /// addresses also where one is there twice.
     #[error("the value of the key {0} is of the wrong kind or out of range")]
     WrongType(Key),
     /// An element is a real number, which this profile leaves out.
@@ -76,7 +76,7 @@ impl ConfigFault {
     }
 }
 
-/// Of two faults the one of the lower number, and of two of one number the former.
+/// Of two faults the one of the lower number, and of two of one number the first.
 pub(crate) fn least_of_two(
     former: Option<ConfigFault>,
     later: Option<ConfigFault>,

@@ -13,7 +13,7 @@ use toml::{Table, Value};
 /// The faults of a file, in the order in which faults are looked for.
 ///
 /// # Errors
-/// Want of memory.
+/// [`AllocError`] where there is no memory.
 pub(crate) fn find_all(alloc: Global, top: &Table) -> Result<Vec<Finding<'_>>, AllocError> {
     let mut found = Vec::new(alloc);
     push_node(&mut found, top)?;
@@ -27,7 +27,7 @@ pub(crate) fn find_all(alloc: Global, top: &Table) -> Result<Vec<Finding<'_>>, A
 /// Adds the faults at some keys of a table.
 ///
 /// # Errors
-/// Want of memory.
+/// [`AllocError`] where there is no memory.
 fn push_table<'a>(
     found: &mut Vec<Finding<'a>>,
     table: &'a Table,
@@ -46,7 +46,7 @@ fn push_table<'a>(
 /// Adds the faults at a key that has one.
 ///
 /// # Errors
-/// Want of memory.
+/// [`AllocError`] where there is no memory.
 fn push_key<'a>(
     found: &mut Vec<Finding<'a>>,
     fault: ConfigFault,
@@ -73,10 +73,10 @@ fn push_key<'a>(
     Ok(())
 }
 
-/// Adds the faults of an array of numbers or of addresses, of which at most so many are wanted.
+/// Adds the faults of an array of numbers or of addresses, of which at most `most` are allowed.
 ///
 /// # Errors
-/// Want of memory.
+/// [`AllocError`] where there is no memory.
 fn push_members<'a>(
     found: &mut Vec<Finding<'a>>,
     place: Place,
@@ -110,7 +110,7 @@ fn push_members<'a>(
     Ok(())
 }
 
-/// Whether a member of an array is what the key wants. An address is it only once: where it stands
+/// Whether a member of an array is what the key needs. An address is that only once: where it is
 /// among the members before, it isn't.
 fn is_wanted(key: Key, before: &[Value], member: &Value) -> bool {
     match key.wanted() {
@@ -125,7 +125,7 @@ fn is_wanted(key: Key, before: &[Value], member: &Value) -> bool {
 /// Adds the faults at the keys of the node.
 ///
 /// # Errors
-/// Want of memory.
+/// [`AllocError`] where there is no memory.
 fn push_node<'a>(found: &mut Vec<Finding<'a>>, top: &'a Table) -> Result<(), AllocError> {
     push_table(found, top, Place::Root, &[Key::Node])?;
     match node_in(top) {
@@ -137,7 +137,7 @@ fn push_node<'a>(found: &mut Vec<Finding<'a>>, top: &'a Table) -> Result<(), All
 /// Adds the faults at the keys of the slots.
 ///
 /// # Errors
-/// Want of memory.
+/// [`AllocError`] where there is no memory.
 fn push_slots<'a>(found: &mut Vec<Finding<'a>>, top: &'a Table) -> Result<(), AllocError> {
     push_table(found, top, Place::Root, &[Key::Slot])?;
     for (slot, member) in members_at(top, Key::Slot).iter().enumerate() {
@@ -151,7 +151,7 @@ fn push_slots<'a>(found: &mut Vec<Finding<'a>>, top: &'a Table) -> Result<(), Al
 /// Adds the faults at the keys of the datasets, those of their elements left out.
 ///
 /// # Errors
-/// Want of memory.
+/// [`AllocError`] where there is no memory.
 fn push_dataset_tables<'a>(found: &mut Vec<Finding<'a>>, top: &'a Table) -> Result<(), AllocError> {
     push_table(found, top, Place::Root, &[Key::Dataset])?;
     for (index, member) in members_at(top, Key::Dataset).iter().enumerate() {
@@ -166,7 +166,7 @@ fn push_dataset_tables<'a>(found: &mut Vec<Finding<'a>>, top: &'a Table) -> Resu
 /// Adds the faults at the keys of the elements of all datasets.
 ///
 /// # Errors
-/// Want of memory.
+/// [`AllocError`] where there is no memory.
 fn push_elements<'a>(found: &mut Vec<Finding<'a>>, top: &'a Table) -> Result<(), AllocError> {
     for (index, member) in members_at(top, Key::Dataset).iter().enumerate() {
         if let Some(table) = member.as_table() {
@@ -179,7 +179,7 @@ fn push_elements<'a>(found: &mut Vec<Finding<'a>>, top: &'a Table) -> Result<(),
 /// Adds the faults at the keys of the elements of a dataset.
 ///
 /// # Errors
-/// Want of memory.
+/// [`AllocError`] where there is no memory.
 fn push_elements_of<'a>(
     found: &mut Vec<Finding<'a>>,
     dataset: &'a Table,

@@ -11,21 +11,21 @@ use toml::Value;
 pub(crate) enum Cause<'a> {
     /// A required key isn't there.
     Absent(Key),
-    /// The value at a key isn't what the key wants.
+    /// The value at a key isn't what the key needs.
     Unwanted(Key, &'a Value),
-    /// The member of that index of the array at a key isn't what the key wants.
+    /// The member of that index of the array at a key isn't what the key needs.
     UnwantedMember(Key, usize, &'a Value),
-    /// The array at a key has so many members, and at most so many are wanted.
+    /// The array at a key has that many members, the first number; the second is the most allowed.
     TooMany(Key, usize, u16),
     /// An earlier dataset has the same identifier.
     TwiceId,
     /// The element is of that dataset, which isn't there.
     NoDataset(u32),
-    /// The element is an array of size 0, and no count stands before it.
+    /// The element is an array of size 0, and no count comes before it.
     NoCount,
     /// Datasets nest too deep in this one.
     TooDeep,
-    /// The zero value of the dataset takes so many bytes.
+    /// The zero value of the dataset has that many bytes.
     TooBig(u64),
 }
 
@@ -41,7 +41,7 @@ pub(crate) struct Finding<'a> {
 }
 
 impl Finding<'_> {
-    /// What of the file brings the fault. Of an array that is too long it is the first member that
+    /// The part of the file at fault. Of an array that is too long it is the first member that
     /// is too many; of a key that is missing, and where several statements are at fault together,
     /// the table.
     pub(crate) fn spot(&self) -> Spot {

@@ -1,4 +1,4 @@
-//! Which datasets have values that all take as many bytes.
+//! Which datasets have values that all have the same number of bytes.
 
 ghost use Rattle.std.specs.Prelude.{◌≡◌, ℕ, suc, length, replicate, false, IfOk};
 ghost use Rattle.trdp_dataset.specs.Datasets.{passes};
@@ -8,7 +8,7 @@ use crate::datasets::Datasets;
 use crate::element::{Element, Form};
 use std::alloc::{AllocError, Global};
 
-/// Whether all values of a type take as many bytes; `fixed` says it of each dataset in order.
+/// Whether all values of a type have one length; `fixed` says it of each dataset in order.
 fn form_fixed(datasets: &Datasets, fixed: &[bool], form: Form) -> bool
     requires { length fixed.now ≡ length datasets.now }
     ensures { (depth : ℕ) → fixed.now ≡ fixed_row datasets.now depth
@@ -23,7 +23,7 @@ fn form_fixed(datasets: &Datasets, fixed: &[bool], form: Form) -> bool
     }
 }
 
-/// Whether no element is an array of size 0, and all values of each one's type take as many bytes.
+/// Whether no element is an array of size 0, and all values of each one's type have one length.
 fn all_fixed(datasets: &Datasets, fixed: &[bool], elements: &[Element]) -> bool
     requires { length fixed.now ≡ length datasets.now }
     ensures { (depth : ℕ) → fixed.now ≡ fixed_row datasets.now depth
@@ -37,7 +37,7 @@ fn all_fixed(datasets: &Datasets, fixed: &[bool], elements: &[Element]) -> bool
     true
 }
 
-/// Whether all values of a dataset take as many bytes, down to a depth one larger than that of
+/// Whether all values of a dataset have one length, down to a depth one larger than that of
 /// `fixed`.
 #[tactic(auto, unfolding(crate::specs::FixedSizes::is_fixed))]
 fn is_fixed(datasets: &Datasets, fixed: &[bool], id: u32) -> bool
@@ -72,7 +72,7 @@ fn none_fixed(alloc: Global, datasets: &Datasets) -> Result<Vec<bool>, AllocErro
     vec![in alloc; false; datasets.len()]
 }
 
-/// Of each dataset in order whether all its values take as many bytes.
+/// Of each dataset in order whether all its values have one length.
 pub(crate) fn fixed_datasets(alloc: Global, datasets: &Datasets) -> Result<Vec<bool>, AllocError>
     ensures { IfOk result (λ fixed. fixed.items ≡ fixed_row datasets.now 5) }
 {

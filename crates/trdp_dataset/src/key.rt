@@ -23,7 +23,7 @@ pub enum Key {
     SpareControlPorts,
     /// `control_address` of the node, at which the control ports and the operator's are bound.
     ControlAddress,
-    /// `groups` of the node, the addresses of the multicast groups that it joins.
+    /// `groups` of the node, the addresses of the multicast groups that the system joins for it.
     Groups,
     /// `ttl` of the node, how many hops its telegrams may take.
     Ttl,
@@ -60,7 +60,7 @@ pub enum Key {
 pub enum Wanted {
     /// A table.
     Table,
-    /// An array of tables; more than so many are [`ConfigFault::TooMany`](crate::ConfigFault).
+    /// An array of tables; more than that many are [`ConfigFault::TooMany`](crate::ConfigFault).
     Tables(u16),
     /// The text of an IPv4 address.
     Address,
@@ -73,7 +73,7 @@ pub enum Wanted {
     /// included, none of them there twice; more of them than the first are
     /// [`ConfigFault::TooMany`](crate::ConfigFault).
     Addresses(u16, u32, u32),
-    /// A whole number from 0 on; one above so many is
+    /// A whole number from 0 on; one above this is
     /// [`ConfigFault::TooMany`](crate::ConfigFault).
     Quota(u16),
     /// The identifier of a dataset, a whole number; one that isn't from the first to the second,
@@ -99,7 +99,7 @@ pub enum Absent {
 /// A row of the table of keys.
 #[derive(Clone, Copy)]
 pub(crate) struct KeyRow {
-    /// The key as it stands in the file.
+    /// The key as the file has it.
     pub(crate) text: &'static str,
     /// What its value has to be.
     pub(crate) wanted: Wanted,
@@ -172,7 +172,7 @@ impl Key {
         }
     }
 
-    /// The key as it stands in the file.
+    /// The key as the file has it.
     pub fn text(self) -> &'static str
         ensures value { result.now ≡ key_text self }
     {
@@ -193,7 +193,7 @@ impl Key {
         self.row().absent == Absent::Missing
     }
 
-    /// The number that stands for the key where it isn't there; 0 where no number does.
+    /// The default of a key that isn't there; 0 where no number is its default.
     pub(crate) fn default_number(self) -> u16
         ensures value { result ≡ default_of self }
     {

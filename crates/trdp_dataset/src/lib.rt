@@ -1,8 +1,8 @@
 //! The datasets of a train's telegrams and the configuration of a node, read from TOML.
 //!
 //! A [`NodeConfig`] is a whole configuration, a [`Registry`] its datasets by identifier, and an
-//! [`Element`] one entry of a dataset. What a file lacks is told as a [`ConfigFault`] with its
-//! [`Key`].
+//! [`Element`] one entry of a dataset. A file that can't be used has a [`ConfigFault`], some with
+//! a [`Key`].
 //!
 //! ```text
 //! let config = NodeConfig::from_toml(alloc, &bytes)?;
@@ -11,14 +11,15 @@
 //! config.registry().elements(1001)     // the entries of dataset 1001, if there is one
 //! ```
 //!
-//! What a file means, and which fault it has, are functions of the table that its text is; the
-//! table is `toml`'s to read. All faults of the file, with their lines, [`fault_place`] tells, what
-//! of it means nothing [`unknown_keys`], and which telegrams can't be meant [`telegram_doubts`].
+//! For the file's author, [`fault_place`] lists all faults with their lines, [`unknown_keys`] the
+//! keys that mean nothing, and [`telegram_doubts`] the telegrams that can't be meant.
+//! `trdp_marshal` encodes values of a [`Registry`]; the program starts a node of a [`NodeConfig`].
 //!
-//! What no contract can say is that memory is there: a reader that always answers `OutOfMemory`
-//! meets its contract, and the tests show that a good file is taken and a broken one gets its
-//! fault. The sentence of a fault is covered by tests alone, and so are the words of `fault_place`,
-//! `unknown_keys` and `telegram_doubts`, which have no clauses.
+//! Proved: what a file means, and which fault it has, are functions of the table that its text is;
+//! reading the table is up to `toml`. Every registry is sound ([`Registry::sound`]).
+//!
+//! Covered by tests alone: the sentence of a fault, and the words of `fault_place`, `unknown_keys`
+//! and `telegram_doubts`, which have no clauses.
 #![tactic(auto)]
 
 mod check;

@@ -1,7 +1,7 @@
 //! The lines of a file on which its statements begin.
 //!
-//! What `toml` reads has no lines. So the file is read in parts: a statement ends with the first
-//! line up to which it is TOML by itself, and the one that brings something is the last one of the
+//! What `toml` reads has no lines. So the file is read in parts. A statement ends with the first
+//! line up to which it is TOML by itself. The one that adds something is the last one of the
 //! shortest front of the file that has it.
 
 use crate::place::Place;
@@ -9,11 +9,11 @@ use crate::value::items;
 use std::alloc::{AllocError, Global};
 use toml::Table;
 
-/// How many bytes are read for the ends of the statements, and how many to find what they bring: at
+/// How many bytes are read for the ends of the statements, and how many to find what they add: at
 /// most a second's worth of each.
 const READ_MAX: usize = 24 << 20;
 
-/// Something of a file that a statement brings.
+/// Something in a file that a statement adds.
 #[derive(Clone, Copy)]
 pub(crate) struct Spot {
     /// The table.
@@ -59,7 +59,7 @@ struct Front {
 /// The lines of a file, and how much of it may be read for more of them.
 #[derive(Drop)]
 pub(crate) struct Lines<'a> {
-    /// Where the statements are kept.
+    /// The allocator of the statements.
     alloc: Global,
     /// The file.
     file: &'a [u8],
@@ -67,8 +67,8 @@ pub(crate) struct Lines<'a> {
     statements: Vec<Statement>,
     /// The index of the statement that was found last; what is asked for next is mostly near it.
     last: usize,
-    /// The last front that lacked what was sought, so that it needn't be read again; None where
-    /// there was none.
+    /// The last front without what was sought, so that it needn't be read again; None where there
+    /// was none.
     lacking: Option<Front>,
     /// The last front that had what was sought; None where there was none.
     having: Option<Front>,
@@ -80,7 +80,7 @@ impl<'a> Lines<'a> {
     /// The lines of a file that is TOML.
     ///
     /// # Errors
-    /// Want of memory.
+    /// [`AllocError`] where there is no memory.
     pub(crate) fn new(alloc: Global, file: &'a [u8]) -> Result<Self, AllocError> {
         let mut lines = Lines {
             alloc,
@@ -96,11 +96,11 @@ impl<'a> Lines<'a> {
         Ok(lines)
     }
 
-    /// The line, from 1, on which the statement begins that brings something; None where the file
-    /// lacks it, or where too much would have to be read to find it.
+    /// The line, from 1, on which the statement begins that adds something; None where the file
+    /// doesn't have it, or where too much would have to be read to find it.
     ///
     /// # Errors
-    /// Want of memory.
+    /// [`AllocError`] where there is no memory.
     pub(crate) fn line_of(&mut self, spot: Spot) -> Result<Option<usize>, AllocError> {
         if let (Place::Root, None) = (spot.place, spot.key) {
             return Ok(Some(1));
@@ -117,7 +117,7 @@ impl<'a> Lines<'a> {
     /// Finds the statements: each ends with the first line up to which it is TOML by itself.
     ///
     /// # Errors
-    /// Want of memory.
+    /// [`AllocError`] where there is no memory.
     fn find_statements(&mut self) -> Result<(), AllocError> {
         let mut begin = 0usize;
         let mut line = 1usize;
@@ -131,19 +131,19 @@ impl<'a> Lines<'a> {
         Ok(())
     }
 
-    /// Whether a statement may end before the line that begins behind so many bytes. None begins as
-    /// the lines of an array of tables do, which spares most of what would be read in vain.
+    /// Whether a statement may end before the line that begins after `end` bytes. No statement
+    /// begins as the lines within an array of tables do, which saves most of the reads in vain.
     fn may_end(&self, end: usize) -> bool {
         let behind = self.file.get(end..).unwrap_or(&[]);
         let first = behind.iter().find(|byte| !matches!(**byte, b' ' | b'\t'));
         !matches!(first, Some(b'{' | b'}' | b']' | b','))
     }
 
-    /// Two statements, by their indexes: the first that is known to bring something, or the number
+    /// Two statements, by their indexes: the first that is known to add something, or the number
     /// of all, and the first that may. They are sought from the last one on.
     ///
     /// # Errors
-    /// Want of memory.
+    /// [`AllocError`] where there is no memory.
     fn bounds(&mut self, spot: Spot) -> Result<(usize, usize), AllocError> {
         let before = self.last.saturating_sub(1);
         if self.last > 0 && self.has(before, spot)? {
@@ -165,10 +165,10 @@ impl<'a> Lines<'a> {
         Ok((low, self.statements.len()))
     }
 
-    /// The index of the first statement that brings something, from `low` to `high`.
+    /// The index of the first statement that adds something, from `low` to `high`.
     ///
     /// # Errors
-    /// Want of memory.
+    /// [`AllocError`] where there is no memory.
     fn first_with(&mut self, spot: Spot, low: usize, high: usize) -> Result<usize, AllocError> {
         let mut low = low;
         let mut high = high;
@@ -189,7 +189,7 @@ impl<'a> Lines<'a> {
     /// Whether something is there at the end of a statement.
     ///
     /// # Errors
-    /// Want of memory.
+    /// [`AllocError`] where there is no memory.
     fn has(&mut self, index: usize, spot: Spot) -> Result<bool, AllocError> {
         for front in [&self.lacking, &self.having] {
             if let Some(front) = front {
@@ -214,7 +214,7 @@ impl<'a> Lines<'a> {
     /// Reads some bytes of the file; None where they are no TOML, or may not be read any more.
     ///
     /// # Errors
-    /// Want of memory.
+    /// [`AllocError`] where there is no memory.
     fn read(&mut self, begin: usize, end: usize) -> Result<Option<Table>, AllocError> {
         let Some(bytes) = self.file.get(begin..end) else {
             return Ok(None);
@@ -234,7 +234,7 @@ impl<'a> Lines<'a> {
 /// How many bytes a file has up to the end of each line.
 ///
 /// # Errors
-/// Want of memory.
+/// [`AllocError`] where there is no memory.
 fn line_ends(alloc: Global, file: &[u8]) -> Result<Vec<usize>, AllocError> {
     let mut ends = Vec::new(alloc);
     let mut end = 0usize;

@@ -14,7 +14,7 @@ use toml::{Table, Value};
 /// How deep datasets may nest, the outermost included (profile).
 pub(crate) const DEPTH_MAX: u8 = 5;
 
-/// How many bytes the zero value of a dataset may take (profile).
+/// How many bytes the zero value of a dataset may have (profile).
 pub(crate) const ZERO_SIZE_MAX: u64 = 65_388;
 
 /// A dataset of a file.
@@ -68,7 +68,7 @@ impl FileDatasets {
         self.index_of.get(&id).copied()
     }
 
-    /// Whether a dataset stands at that index whose identifier an earlier one has.
+    /// Whether the dataset at that index has an identifier that an earlier one has.
     fn is_twice(&self, index: usize, dataset: &FileDataset) -> bool {
         match dataset.id {
             Some(id) => self.index(id) != Some(index),
@@ -77,10 +77,10 @@ impl FileDatasets {
     }
 }
 
-/// Adds the faults of the datasets of a file that are no key's.
+/// Adds the faults of the datasets of a file that belong to no key.
 ///
 /// # Errors
-/// Want of memory.
+/// [`AllocError`] where there is no memory.
 pub(crate) fn push_misfits<'a>(
     alloc: Global,
     found: &mut Vec<Finding<'a>>,
@@ -100,7 +100,7 @@ pub(crate) fn push_misfits<'a>(
 /// The datasets of a file.
 ///
 /// # Errors
-/// Want of memory.
+/// [`AllocError`] where there is no memory.
 fn read_datasets(alloc: Global, top: &Table) -> Result<FileDatasets, AllocError> {
     let mut datasets = FileDatasets {
         rows: Vec::new(alloc),
@@ -117,7 +117,7 @@ fn read_datasets(alloc: Global, top: &Table) -> Result<FileDatasets, AllocError>
 /// Adds the dataset that a table is, at an index among the datasets of the file.
 ///
 /// # Errors
-/// Want of memory.
+/// [`AllocError`] where there is no memory.
 fn push_dataset(
     alloc: Global,
     datasets: &mut FileDatasets,
@@ -141,7 +141,7 @@ fn push_dataset(
 /// The elements of a dataset; None where the type isn't known.
 ///
 /// # Errors
-/// Want of memory.
+/// [`AllocError`] where there is no memory.
 fn read_elements(alloc: Global, dataset: &Table) -> Result<Vec<Option<Element>>, AllocError> {
     let mut elements = Vec::new(alloc);
     for member in members_at(dataset, Key::Elements) {
@@ -158,7 +158,7 @@ fn read_element(member: &Value) -> Option<Element> {
 /// Adds each dataset whose identifier an earlier one has.
 ///
 /// # Errors
-/// Want of memory.
+/// [`AllocError`] where there is no memory.
 fn push_twice(found: &mut Vec<Finding<'_>>, datasets: &FileDatasets) -> Result<(), AllocError> {
     for (index, dataset) in datasets.rows.iter().enumerate() {
         if datasets.is_twice(index, dataset) {
@@ -171,7 +171,7 @@ fn push_twice(found: &mut Vec<Finding<'_>>, datasets: &FileDatasets) -> Result<(
 /// Adds each element of a dataset that is of a dataset which isn't there.
 ///
 /// # Errors
-/// Want of memory.
+/// [`AllocError`] where there is no memory.
 fn push_unknown_datasets(
     found: &mut Vec<Finding<'_>>,
     datasets: &FileDatasets,
@@ -197,7 +197,7 @@ fn nested_in(element: Option<Element>) -> Option<u32> {
 /// type isn't known may be meant as a count.
 ///
 /// # Errors
-/// Want of memory.
+/// [`AllocError`] where there is no memory.
 fn push_uncounted(found: &mut Vec<Finding<'_>>, dataset: &FileDataset) -> Result<(), AllocError> {
     let mut is_counted = false;
     for (index, element) in dataset.elements.iter().enumerate() {
@@ -213,7 +213,7 @@ fn push_uncounted(found: &mut Vec<Finding<'_>>, dataset: &FileDataset) -> Result
 /// Adds each dataset that nests too deep.
 ///
 /// # Errors
-/// Want of memory.
+/// [`AllocError`] where there is no memory.
 fn push_too_deep(
     found: &mut Vec<Finding<'_>>,
     datasets: &FileDatasets,
@@ -230,7 +230,7 @@ fn push_too_deep(
 /// Whether each dataset nests no deeper than it may.
 ///
 /// # Errors
-/// Want of memory.
+/// [`AllocError`] where there is no memory.
 fn within_depth(alloc: Global, datasets: &FileDatasets) -> Result<Vec<bool>, AllocError> {
     // Whether each dataset nests no deeper than the number of rounds.
     let mut within = vec![in alloc; false; datasets.rows.len()]?;
@@ -243,7 +243,7 @@ fn within_depth(alloc: Global, datasets: &FileDatasets) -> Result<Vec<bool>, All
 /// Whether each dataset nests at most one deeper than those do that are within a depth.
 ///
 /// # Errors
-/// Want of memory.
+/// [`AllocError`] where there is no memory.
 fn deeper_by_one(
     alloc: Global,
     datasets: &FileDatasets,
@@ -283,7 +283,7 @@ fn row_of<T: Copy>(datasets: &FileDatasets, rows: &[T], id: u32) -> Option<T> {
 /// Adds each dataset whose zero value is too long, of those that nest no deeper than they may.
 ///
 /// # Errors
-/// Want of memory.
+/// [`AllocError`] where there is no memory.
 fn push_too_big(
     alloc: Global,
     found: &mut Vec<Finding<'_>>,
@@ -303,9 +303,9 @@ fn push_too_big(
 /// The bytes of the zero value of each dataset that nests no deeper than it may; at most 2^64 - 1.
 ///
 /// # Errors
-/// Want of memory.
+/// [`AllocError`] where there is no memory.
 fn zero_sizes(alloc: Global, datasets: &FileDatasets) -> Result<Vec<u64>, AllocError> {
-    // As many rounds as datasets nest deep make the sizes whole.
+    // After as many rounds as datasets nest deep, the sizes are whole.
     let mut sizes = vec![in alloc; 0u64; datasets.rows.len()]?;
     for _round in 0..DEPTH_MAX {
         sizes = sizes_over(alloc, datasets, &sizes)?;
@@ -316,7 +316,7 @@ fn zero_sizes(alloc: Global, datasets: &FileDatasets) -> Result<Vec<u64>, AllocE
 /// The bytes of the zero value of each dataset, where nested ones have these sizes.
 ///
 /// # Errors
-/// Want of memory.
+/// [`AllocError`] where there is no memory.
 fn sizes_over(
     alloc: Global,
     datasets: &FileDatasets,

@@ -1,4 +1,4 @@
-//! The tables of a configuration file, as they are named to its author.
+//! The tables of a configuration file, as its author reads their names.
 
 use crate::key::Key;
 use crate::position::{members_at, value_at};
@@ -7,8 +7,7 @@ use crate::value::items;
 use std::fmt;
 use toml::{Table, Value};
 
-/// The key of the root at which the clients have what the node takes no notice of: the dataset of
-/// each comId.
+/// The key of the root that the clients read and the node ignores: the dataset of each comId.
 pub(crate) const TELEGRAM_KEY: &str = "telegram";
 
 /// A dataset of a file, by its name.

@@ -1,4 +1,4 @@
-//! The positions of a configuration file where a key stands or is missing.
+//! The positions of a configuration file at which a key is present or missing.
 
 ghost use Rattle.std.specs.Prelude.{◌≡◌, ◌++◌, IfOk, OnOk, option_map, map, Some};
 ghost use Rattle.std.specs.List.{filter_map};

@@ -31,7 +31,7 @@ fn wrong_unless(key: Key, is_right: bool) -> Option<ConfigFault>
     }
 }
 
-/// The fault of an array of so many members, of which the key allows at most so many.
+/// The fault of an array of `count` members, of which the key allows at most `most`.
 fn count_fault(key: Key, most: u16, count: usize) -> Option<ConfigFault>
     ensures value { result ≡ count_fault key most count }
 {
@@ -44,7 +44,7 @@ fn count_fault(key: Key, most: u16, count: usize) -> Option<ConfigFault>
     }
 }
 
-/// The fault of what stands where an array of at most so many tables is wanted.
+/// The fault of a value where an array of at most `most` tables is expected.
 fn tables_fault(key: Key, most: u16, value: &Value) -> Option<ConfigFault>
     ensures value { result ≡ tables_fault key most (view value.now) }
 {
@@ -55,7 +55,7 @@ fn tables_fault(key: Key, most: u16, value: &Value) -> Option<ConfigFault>
     }
 }
 
-/// The fault of what stands where an array of at most so many numbers in a range is wanted.
+/// The fault of a value where an array of at most `most` numbers in a range is expected.
 fn numbers_fault(
     key: Key,
     most: u16,
@@ -72,7 +72,7 @@ fn numbers_fault(
     }
 }
 
-/// The fault of an array without another, in which something stands twice or not.
+/// The fault of an array without another, in which something is twice or not.
 fn again_fault(key: Key, again: bool) -> Option<ConfigFault>
     ensures value { result ≡ again_fault key again None }
 {
@@ -83,8 +83,8 @@ fn again_fault(key: Key, again: bool) -> Option<ConfigFault>
     }
 }
 
-/// The fault of what stands where an array of at most so many addresses in a range is wanted, none
-/// of them twice.
+/// The fault of a value where an array of at most `most` addresses in a range is expected, none of
+/// them twice.
 fn addresses_fault(
     key: Key,
     most: u16,
@@ -100,12 +100,12 @@ fn addresses_fault(
     let members = items(value);
     match count_fault(key, most, members.len()) {
         Some(fault) => Some(fault),
-        // There are no more than may be: so many are compared with each other in no time.
+        // There are no more than may be, which are compared with each other in no time.
         None => again_fault(key, has_again(members, least, greatest)),
     }
 }
 
-/// The fault of what stands where a quota of at most so many is wanted.
+/// The fault of a value where a quota of at most `most` is expected.
 fn quota_fault(key: Key, most: u16, value: &Value) -> Option<ConfigFault>
     ensures value { result ≡ quota_fault key most (natural_in (view value.now)) }
 {
@@ -127,7 +127,7 @@ fn bad_unless(is_good: bool) -> Option<ConfigFault>
     }
 }
 
-/// The fault of what stands where the identifier of a dataset is wanted.
+/// The fault of a value where the identifier of a dataset is expected.
 fn identifier_fault(key: Key, value: &Value) -> Option<ConfigFault>
     ensures value { result ≡ identifier_fault key (view value.now) }
 {
@@ -138,7 +138,7 @@ fn identifier_fault(key: Key, value: &Value) -> Option<ConfigFault>
     }
 }
 
-/// The fault of what stands where the type of an element is wanted.
+/// The fault of a value where the type of an element is expected.
 fn kind_fault(key: Key, value: &Value) -> Option<ConfigFault>
     ensures value { result ≡ kind_fault key (view value.now) }
 {
@@ -151,7 +151,7 @@ fn kind_fault(key: Key, value: &Value) -> Option<ConfigFault>
     }
 }
 
-/// The fault of a value at a key, by what the key wants.
+/// The fault of a value at a key, by what the key needs.
 fn value_fault(key: Key, value: &Value) -> Option<ConfigFault>
     ensures value { result ≡ value_fault key (wanted_by key) (view value.now) }
 {
@@ -174,7 +174,7 @@ fn value_fault(key: Key, value: &Value) -> Option<ConfigFault>
 }
 
 impl Key {
-    /// The fault of what a table has at the key: of a value that isn't what the key wants, or of a
+    /// The fault of what a table has at the key: of a value that isn't what the key needs, or of a
     /// required key that isn't there.
     pub(crate) fn fault(self, found: Option<&Value>) -> Option<ConfigFault>
         ensures value { result ≡ found_fault self (option_map (λ v. view v.now) found.entry) }

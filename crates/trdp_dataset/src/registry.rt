@@ -17,7 +17,7 @@ pub struct Registry {
     datasets: Datasets,
     /// The length of each dataset's zero value in bytes, 0 to 65,388, in the same order.
     zero_sizes: Vec<u32>,
-    /// Of each dataset in order, whether all its values take as many bytes as the zero value.
+    /// Of each dataset in order, whether all its values have as many bytes as the zero value.
     fixed: Vec<bool>,
 }
 
@@ -48,12 +48,12 @@ impl Registry {
     ghost use Rattle.trdp_dataset.specs.FixedSizes.{fixed_size, fixed_row};
     ghost use Rattle.trdp_dataset.specs.Configs.{ReadsToml, registry_of};
 
-    /// The registry of a configuration file in TOML, of which the key `dataset` alone is looked
-    /// at. Without that key there is no dataset.
+    /// The registry of a configuration file in TOML, which reads the key `dataset` alone. Without
+    /// that key there is no dataset.
     ///
     /// # Errors
-    /// The faults of [`ConfigFault`], of which `Toml` says that the bytes aren't UTF-8 or not
-    /// TOML; `OutOfMemory` may come in place of any of them.
+    /// The faults of [`ConfigFault`]; `Toml` is that of bytes that aren't UTF-8 or not TOML. Any
+    /// file may give `OutOfMemory` in place of its own fault.
     pub fn from_toml(alloc: Global, bytes: &[u8]) -> Result<Self, ConfigFault>
         ensures reads { ReadsToml registry_of bytes.now result }
     {
@@ -63,7 +63,7 @@ impl Registry {
     }
 
     /// The registry of datasets that fit together, with the sizes of their zero values in order,
-    /// and whether all values of each take as many bytes.
+    /// and whether all values of each have one length.
     pub(crate) fn new(datasets: Datasets, zero_sizes: Vec<u32>, fixed: Vec<bool>) -> Self
         requires sound { IsRegistry datasets }
         requires sizes { zero_sizes.items ≡ zero_sizes_of datasets }
@@ -125,7 +125,7 @@ impl Registry {
         }
     }
 
-    /// How many bytes the zero value of a dataset takes, at most 65,388: every number in it is 0,
+    /// How many bytes the zero value of a dataset has, at most 65,388: every number in it is 0,
     /// and so each array of size 0 is empty. None where no dataset has that identifier.
     pub fn zero_size(&self, id: u32) -> Option<usize>
         ensures value { result
@@ -138,9 +138,9 @@ impl Registry {
         }
     }
 
-    /// How many bytes each value of a dataset takes, at most 65,388: a dataset in which no array
-    /// of size 0 stands, nor in those that are nested in it, has values of one length. None of any
-    /// other dataset, and where no dataset has that identifier.
+    /// How many bytes each value of a dataset has, at most 65,388: a dataset has values of one
+    /// length where neither it nor those nested in it have an array of size 0. None of any other
+    /// dataset, and where no dataset has that identifier.
     pub fn fixed_size(&self, id: u32) -> Option<usize>
         ensures value { result ≡ fixed_size self.now id }
         ensures bound { IfSome result (λ n. n ≤ value_limit) }

@@ -1,4 +1,4 @@
-//! The line in which a fault of a file is told.
+//! The line that reports a fault of a file.
 
 use crate::finding::{Cause, Finding};
 use crate::key::Key;
@@ -15,7 +15,7 @@ const SHOWN_MAX: usize = 60;
 /// Adds the line of a fault.
 ///
 /// # Errors
-/// Want of memory.
+/// [`AllocError`] where there is no memory.
 pub(crate) fn push_finding(
     alloc: Global,
     text: &mut String,
@@ -30,7 +30,7 @@ pub(crate) fn push_finding(
 /// Adds a place as a line begins with it; that of the file's line where it is known.
 ///
 /// # Errors
-/// Want of memory.
+/// [`AllocError`] where there is no memory.
 pub(crate) fn push_place(
     text: &mut String,
     line: Option<usize>,
@@ -45,7 +45,7 @@ pub(crate) fn push_place(
 /// Adds what is wrong at a place.
 ///
 /// # Errors
-/// Want of memory.
+/// [`AllocError`] where there is no memory.
 fn push_cause(alloc: Global, text: &mut String, cause: Cause<'_>) -> Result<(), AllocError> {
     match cause {
         Cause::Absent(key) => write!(text, "the key {key} is missing"),
@@ -86,7 +86,7 @@ fn push_cause(alloc: Global, text: &mut String, cause: Cause<'_>) -> Result<(), 
 /// Adds a key and its value as a file has them.
 ///
 /// # Errors
-/// Want of memory.
+/// [`AllocError`] where there is no memory.
 pub(crate) fn push_value(
     alloc: Global,
     text: &mut String,
@@ -101,7 +101,7 @@ pub(crate) fn push_value(
 /// Adds a value as a file has it: its first characters, and `..` where there are more.
 ///
 /// # Errors
-/// Want of memory.
+/// [`AllocError`] where there is no memory.
 fn push_shown(alloc: Global, text: &mut String, value: &Value) -> Result<(), AllocError> {
     let whole = format!(in alloc; "{value}")?;
     for (index, letter) in whole.chars().enumerate() {
@@ -116,7 +116,7 @@ fn push_shown(alloc: Global, text: &mut String, value: &Value) -> Result<(), All
 /// Adds a character, a control character as a basic string of TOML has it.
 ///
 /// # Errors
-/// Want of memory.
+/// [`AllocError`] where there is no memory.
 fn push_letter(text: &mut String, letter: char) -> Result<(), AllocError> {
     match letter {
         '\n' => text.push_str("\\n"),

@@ -1,4 +1,4 @@
-//! How many bytes the zero values of datasets take.
+//! How many bytes the zero values of datasets have.
 
 ghost use Rattle.std.specs.Prelude.{◌≡◌, ◌+◌, ◌*◌, ℕ, suc, min, length, replicate, IfOk};
 ghost use Rattle.trdp_dataset.specs.Elements.{width_len, form_of};
@@ -9,11 +9,11 @@ use crate::datasets::Datasets;
 use crate::element::{Element, Form};
 use std::alloc::{AllocError, Global};
 
-/// One more byte than a zero value may have: every size above is taken for this one, so that no
+/// One more byte than a zero value may have: every size above is replaced by this one, so that no
 /// sum overflows.
 const TOO_BIG: u64 = 65389;
 
-/// The sum with so many of a size, at most [`TOO_BIG`].
+/// The sum with `count` times a size, at most [`TOO_BIG`].
 fn added(total: u32, count: u16, size: u32) -> u32
     ensures { result ≡ min (total + count * size) 65389 }
 {

@@ -1,4 +1,4 @@
-//! What the clients read of a file, and the node takes no notice of: the dataset of each comId.
+//! What the clients read of a file, and the node ignores: the dataset of each comId.
 
 use crate::lines::{Lines, Spot};
 use crate::place::{Place, TELEGRAM_KEY, telegrams_in};
@@ -11,7 +11,7 @@ use toml::{Table, Value};
 /// The key of a telegram's comId.
 const COM_ID_KEY: &str = "com_id";
 
-/// The key of a telegram's dataset; 0 stands for bytes.
+/// The key of a telegram's dataset; 0 means bytes.
 const DATASET_KEY: &str = "dataset";
 
 /// A key of a telegram that its author may not have meant.
@@ -30,7 +30,7 @@ struct Doubt<'a> {
 /// Adds a warning for each telegram whose dataset isn't there or whose comId an earlier one has.
 ///
 /// # Errors
-/// Want of memory.
+/// [`AllocError`] where there is no memory.
 pub(crate) fn push_telegrams(
     alloc: Global,
     text: &mut String,
@@ -61,7 +61,7 @@ pub(crate) fn push_telegrams(
 /// The keys of telegrams that their author may not have meant.
 ///
 /// # Errors
-/// Want of memory.
+/// [`AllocError`] where there is no memory.
 fn doubts_of<'a>(
     alloc: Global,
     top: &'a Table,
@@ -82,7 +82,7 @@ fn doubts_of<'a>(
 /// Adds the telegrams where they are one table, and no array of tables.
 ///
 /// # Errors
-/// Want of memory.
+/// [`AllocError`] where there is no memory.
 fn push_bracket<'a>(doubts: &mut Vec<Doubt<'a>>, top: &'a Table) -> Result<(), AllocError> {
     if let Some(value) = top.get(TELEGRAM_KEY) {
         if value.is_table() {
@@ -101,7 +101,7 @@ fn push_bracket<'a>(doubts: &mut Vec<Doubt<'a>>, top: &'a Table) -> Result<(), A
 /// indexes.
 ///
 /// # Errors
-/// Want of memory.
+/// [`AllocError`] where there is no memory.
 fn push_com_id<'a>(
     doubts: &mut Vec<Doubt<'a>>,
     seen: &mut BTreeMap<i64, usize>,
@@ -128,7 +128,7 @@ fn push_com_id<'a>(
 /// Adds the dataset of a telegram where it isn't there.
 ///
 /// # Errors
-/// Want of memory.
+/// [`AllocError`] where there is no memory.
 fn push_dataset<'a>(
     doubts: &mut Vec<Doubt<'a>>,
     registry: &Registry,
@@ -148,7 +148,7 @@ fn push_dataset<'a>(
     Ok(())
 }
 
-/// Whether a value is the identifier of a dataset, or the 0 that stands for bytes.
+/// Whether a value is the identifier of a dataset, or the 0 that means bytes.
 fn is_there(registry: &Registry, value: &Value) -> bool {
     match value.as_integer() {
         Some(0) => true,

@@ -8,14 +8,14 @@ use crate::sentence::push_finding;
 use std::alloc::{AllocError, Global};
 use toml::Table;
 
-/// A fault of a file that is told.
+/// A fault of a file that is reported.
 #[derive(Drop)]
 struct Told<'a> {
     /// The fault.
     finding: Finding<'a>,
     /// The line on which it is; None where it wasn't found.
     line: Option<usize>,
-    /// Its place among those that are told: the least comes first.
+    /// Its rank among those that are reported: the least comes first.
     rank: usize,
 }
 
@@ -23,7 +23,7 @@ struct Told<'a> {
 /// order of their lines.
 ///
 /// # Errors
-/// Want of memory.
+/// [`AllocError`] where there is no memory.
 pub(crate) fn push_faults(
     alloc: Global,
     text: &mut String,
@@ -43,7 +43,7 @@ pub(crate) fn push_faults(
 /// The faults of a file with their lines, and the first one that is this fault before all.
 ///
 /// # Errors
-/// Want of memory.
+/// [`AllocError`] where there is no memory.
 fn in_lines<'a>(
     alloc: Global,
     file: &[u8],

@@ -13,7 +13,7 @@ const ROOT_KEYS: [Key; 3] = [Key::Node, Key::Slot, Key::Dataset];
 /// Adds a warning for each key of a file that means nothing.
 ///
 /// # Errors
-/// Want of memory.
+/// [`AllocError`] where there is no memory.
 pub(crate) fn push_unknown(text: &mut String, top: &Table) -> Result<(), AllocError> {
     push_unknown_in(text, top, Place::Root, &ROOT_KEYS)?;
     if let Some(node) = node_in(top) {
@@ -26,7 +26,7 @@ pub(crate) fn push_unknown(text: &mut String, top: &Table) -> Result<(), AllocEr
 /// Adds a warning for each key of a table that isn't one of these.
 ///
 /// # Errors
-/// Want of memory.
+/// [`AllocError`] where there is no memory.
 fn push_unknown_in(
     text: &mut String,
     table: &Table,
@@ -50,7 +50,7 @@ fn is_known(place: Place, keys: &[Key], name: &str) -> bool {
 /// Adds the warnings of the slots.
 ///
 /// # Errors
-/// Want of memory.
+/// [`AllocError`] where there is no memory.
 fn push_unknown_in_slots(text: &mut String, top: &Table) -> Result<(), AllocError> {
     for (slot, member) in members_at(top, Key::Slot).iter().enumerate() {
         if let Some(table) = member.as_table() {
@@ -63,7 +63,7 @@ fn push_unknown_in_slots(text: &mut String, top: &Table) -> Result<(), AllocErro
 /// Adds the warnings of the datasets and their elements.
 ///
 /// # Errors
-/// Want of memory.
+/// [`AllocError`] where there is no memory.
 fn push_unknown_in_datasets(text: &mut String, top: &Table) -> Result<(), AllocError> {
     for (index, member) in members_at(top, Key::Dataset).iter().enumerate() {
         if let Some(table) = member.as_table() {
@@ -78,7 +78,7 @@ fn push_unknown_in_datasets(text: &mut String, top: &Table) -> Result<(), AllocE
 /// Adds the warnings of the elements of a dataset.
 ///
 /// # Errors
-/// Want of memory.
+/// [`AllocError`] where there is no memory.
 fn push_unknown_in_elements(
     text: &mut String,
     dataset: &Table,

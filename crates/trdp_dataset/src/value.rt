@@ -64,7 +64,7 @@ fn natural_within(value: &Value, least: u16, most: u16) -> Option<u16>
 }
 
 impl Wanted {
-    /// The number that a value is, if a number is wanted and this one is in range.
+    /// The number that a value is, if a number is expected and this one is in range.
     pub(crate) fn number(self, value: &Value) -> Option<u16>
         ensures value { result ≡ number_in self (view value.now) }
         ensures range { IfSome result (λ n. IsAllowed self n) }
@@ -76,7 +76,7 @@ impl Wanted {
         }
     }
 
-    /// The number that a member of an array is, if an array of numbers is wanted and this one is
+    /// The number that a member of an array is, if an array of numbers is expected and this one is
     /// in range.
     pub(crate) fn member(self, member: &Value) -> Option<u16>
         ensures value { result ≡ member_in self (view member.now) }
@@ -87,8 +87,8 @@ impl Wanted {
         }
     }
 
-    /// The address that a member of an array gives, in host order, if an array of addresses is
-    /// wanted and this one is in range.
+    /// The address that a member of an array is, in host order, if an array of addresses is
+    /// expected and this one is in range.
     pub(crate) fn member_address(self, member: &Value) -> Option<u32>
         ensures value { result ≡ member_address_in self (view member.now) }
     {
@@ -131,7 +131,7 @@ fn address_of(text: &str) -> Option<Ip>
     }
 }
 
-/// The address that a value gives.
+/// The address that a value is the text of.
 pub(crate) fn address(value: &Value) -> Option<Ip>
     ensures value { option_map (λ ip. ip.0) result ≡ address_in (view value.now) }
 {
@@ -141,7 +141,7 @@ pub(crate) fn address(value: &Value) -> Option<Ip>
     }
 }
 
-/// The address that a value gives, in host order, if it is in the range, ends included.
+/// The address that a value is the text of, in host order, if it is in the range, ends included.
 pub(crate) fn address_within(value: &Value, least: u32, greatest: u32) -> Option<u32>
     ensures value { result ≡ address_within least greatest (view value.now) }
 {
@@ -265,7 +265,7 @@ fn all_addresses(items: &[Value], least: u32, greatest: u32) -> bool
         .all(|item| address_within(item, least, greatest).is_some())
 }
 
-/// Whether a value gives that address, of those in the range, ends included.
+/// Whether a value is the text of that address, of those in the range, ends included.
 fn gives(value: &Value, least: u32, greatest: u32, wanted: u32) -> bool
     ensures value { result ≡ gives least greatest wanted (view value.now) }
 {
@@ -282,7 +282,7 @@ pub(crate) fn are_addresses(value: &Value, least: u32, greatest: u32) -> bool
     value.is_array() && all_addresses(items(value), least, greatest)
 }
 
-/// Whether one of the values gives that address, of those in the range, ends included.
+/// Whether one of the values is the text of that address, of those in the range, ends included.
 pub(crate) fn any_gives(items: &[Value], least: u32, greatest: u32, wanted: u32) -> bool
     ensures value { result
         ≡ list_any (λ item. gives least greatest wanted (view item)) items.now }
@@ -292,7 +292,7 @@ pub(crate) fn any_gives(items: &[Value], least: u32, greatest: u32, wanted: u32)
         .any(|item| gives(item, least, greatest, wanted))
 }
 
-/// Whether two of the values give one address, of those in the range, ends included.
+/// Whether two of the values are texts of one address, of those in the range, ends included.
 pub(crate) fn has_again(items: &[Value], least: u32, greatest: u32) -> bool
     ensures value { result ≡ has_again (addresses_among least greatest (map view items.now)) }
 {

@@ -1,4 +1,4 @@
-//! What is wanted in place of a value.
+//! What is expected in place of a value.
 
 use crate::key::{Key, Wanted};
 use crate::value::{is_real, items};
@@ -29,10 +29,10 @@ const TYPE_NAMES: [&str; 15] = [
 /// The names of the types that are left out.
 const REAL_NAMES: [&str; 2] = ["REAL32", "REAL64"];
 
-/// Adds what a key wants in place of the value that it has.
+/// Adds what a key needs in place of the value that it has.
 ///
 /// # Errors
-/// Want of memory.
+/// [`AllocError`] where there is no memory.
 pub(crate) fn push_wish(text: &mut String, key: Key, value: &Value) -> Result<(), AllocError> {
     match key.wanted() {
         Wanted::Table if value.is_array() => write!(text, "[{key}] is wanted, with one bracket"),
@@ -55,10 +55,10 @@ pub(crate) fn push_wish(text: &mut String, key: Key, value: &Value) -> Result<()
     }
 }
 
-/// Adds what a key that wants an array of numbers or of addresses wants in place of a member.
+/// Adds what a key of an array of numbers or of addresses needs in place of a member.
 ///
 /// # Errors
-/// Want of memory.
+/// [`AllocError`] where there is no memory.
 pub(crate) fn push_member_wish(text: &mut String, key: Key) -> Result<(), AllocError> {
     match key.wanted() {
         Wanted::Numbers(_, least, most) => write!(text, "a number of {least} to {most}"),
@@ -72,10 +72,10 @@ pub(crate) fn push_member_wish(text: &mut String, key: Key) -> Result<(), AllocE
     }
 }
 
-/// Adds what a key that wants an array of tables wants in place of the value that it has.
+/// Adds what a key of an array of tables needs in place of the value that it has.
 ///
 /// # Errors
-/// Want of memory.
+/// [`AllocError`] where there is no memory.
 fn push_tables_wish(text: &mut String, key: Key, value: &Value) -> Result<(), AllocError> {
     if value.is_array() && items(value).is_empty() {
         text.push_str("one at least is wanted")
@@ -86,10 +86,10 @@ fn push_tables_wish(text: &mut String, key: Key, value: &Value) -> Result<(), Al
     }
 }
 
-/// Adds which type is wanted in place of a value.
+/// Adds which type is expected in place of a value.
 ///
 /// # Errors
-/// Want of memory.
+/// [`AllocError`] where there is no memory.
 fn push_kind_wish(text: &mut String, value: &Value) -> Result<(), AllocError> {
     if is_meant_as_real(value) {
         text.push_str("real numbers are left out")
@@ -103,7 +103,7 @@ fn push_kind_wish(text: &mut String, value: &Value) -> Result<(), AllocError> {
 /// Adds which types there are.
 ///
 /// # Errors
-/// Want of memory.
+/// [`AllocError`] where there is no memory.
 fn push_kinds(text: &mut String) -> Result<(), AllocError> {
     text.push_str("a type is ")?;
     for name in &TYPE_NAMES {
@@ -121,7 +121,7 @@ fn is_meant_as_real(value: &Value) -> bool {
     is_real(value) || name_among(&REAL_NAMES, value).is_some()
 }
 
-/// The name that a value is but for small letters, and blanks before and behind.
+/// The name that a value is but for small letters, and blanks before and after.
 fn name_among(names: &[&'static str], value: &Value) -> Option<&'static str> {
     let text = value.as_str()?.trim();
     names

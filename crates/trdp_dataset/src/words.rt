@@ -1,5 +1,5 @@
-//! What a file's author is told of it: what is wrong with it, which of its keys mean nothing, and
-//! which of its telegrams can't be meant.
+//! Reports for a file's author: what is wrong with it, which of its keys mean nothing, and which
+//! of its telegrams can't be meant.
 
 use crate::config::NodeConfig;
 use crate::fault::ConfigFault;
@@ -10,16 +10,16 @@ use std::alloc::{AllocError, Global};
 use std::fmt::Write;
 
 /// What is wrong with a configuration (TOML): each of its faults in a line, with the line of the
-/// file, the place and the key there, its value, and what is wanted. The first one that is this
-/// fault comes first, and then the others in the order of their lines. Of a file that is no TOML it
-/// is what is wrong with it, and in which line; of a want of memory nothing.
+/// file, the table and the key there, its value, and what is expected. The first one that is this
+/// fault comes first, and then the others in the order of their lines. For a file that is no TOML
+/// it says what is wrong, and in which line; for `OutOfMemory` it is empty.
 ///
-/// The line of the file is that on which the statement begins, as that of `element = [`. To look for
-/// all of them takes a second or two at most: where a long file has thousands of faults, those whose
-/// lines weren't found by then stand at the end, and name none.
+/// The line of the file is that on which the statement begins, such as that of `element = [`. To
+/// look for all of them takes a second or two at most: where a long file has thousands of faults,
+/// those whose lines weren't found by then are at the end, and name none.
 ///
 /// # Errors
-/// Want of memory.
+/// [`AllocError`] where there is no memory.
 pub fn fault_place(alloc: Global, config: &[u8], fault: ConfigFault) -> Result<String, AllocError> {
     let mut text = String::new(alloc);
     if fault == ConfigFault::OutOfMemory {
@@ -37,7 +37,7 @@ pub fn fault_place(alloc: Global, config: &[u8], fault: ConfigFault) -> Result<S
 /// TOML.
 ///
 /// # Errors
-/// Want of memory.
+/// [`AllocError`] where there is no memory.
 pub fn unknown_keys(alloc: Global, config: &[u8]) -> Result<String, AllocError> {
     let mut text = String::new(alloc);
     match toml::table_from_slice(alloc, config) {
@@ -49,10 +49,10 @@ pub fn unknown_keys(alloc: Global, config: &[u8]) -> Result<String, AllocError> 
 }
 
 /// Which telegrams of a configuration (TOML) can't be meant, in a line each: those whose dataset
-/// isn't there or whose comId an earlier one has. `taken` is what the bytes mean.
+/// isn't there or whose comId an earlier one has. `taken` is what the file means.
 ///
 /// # Errors
-/// Want of memory.
+/// [`AllocError`] where there is no memory.
 pub fn telegram_doubts(
     alloc: Global,
     config: &[u8],

@@ -1,4 +1,4 @@
--- Lemmas on the whole node: a datagram that it lets in, its runs and its counts.
+-- Lemmas on the whole node: a datagram that it admits, its runs, and what it counts.
 pub mod Admitted
 pub mod Latest
 pub mod Runs

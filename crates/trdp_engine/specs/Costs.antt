@@ -29,7 +29,7 @@ datagram_bounds b slots (Some telegram) =
 abbrev pub moment_bounds : ℕ → ℕ → Counts
 moment_bounds b k = record { comparisons = k * (4 * b + 9) + 3; tests = 0; look_ups = k }
 
--- no count is above its bound
+-- no number is above its bound
 pub record IsWithin (counts bounds : Counts) : Type 0 where
   pub comparisons : counts.comparisons ≤ bounds.comparisons
   pub tests : counts.tests ≤ bounds.tests

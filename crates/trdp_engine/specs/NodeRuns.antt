@@ -1,4 +1,4 @@
--- All that a run says of a node.
+-- What the contract of a run says of a node.
 use Rattle.trdp_engine.specs.NodeStates.{uncounted}
 use Rattle.std.specs.Prelude.{◌≡◌, ℕ, ◌≤◌, List, [], ◌∷◌, ◌++◌, length, slice_get, map, take}
 use Rattle.std.specs.Prelude.{None, IfSome, is_some, true, if◌then◌else◌}
@@ -22,12 +22,12 @@ pub record HasCome (old : NodeState) (events : List EventModel)
       ≡ (alone_in_view (setup_of old.config) s (length old.slots) (slice_get old.slots s)
       old.globals events).slot
 
--- how many slots a node of so many has after these events
+-- how many slots a node has after these events, which had n before
 abbrev pub slots_through : ℕ → List EventModel → ℕ
 slots_through n [] = n
 slots_through n (event ∷ events) = slots_through (slots_then n event) events
 
--- the globals to which these events lead a node of so many slots; those that it refuses leave them
+-- the globals to which these events lead a node of n slots; events that it rejects leave them
 abbrev pub globals_through : ℕ → Globals → List EventModel → Globals
 globals_through n globals [] = globals
 globals_through n globals (event ∷ events) =
@@ -35,15 +35,16 @@ globals_through n globals (event ∷ events) =
     then globals_through (slots_then n event) globals events
     else globals_through (slots_then n event) (globals_after globals event) events
 
--- a node of so many slots refuses each of these events
+-- a node of n slots rejects each of these events
 abbrev pub AreRefused : ℕ → Globals → List EventModel → Type 0
 AreRefused n globals [] = Unit {0}
 AreRefused n globals (event ∷ events) =
     (is_some (refused_as n globals event) ≡ true) × AreRefused n globals events
 
--- what a node has counted after these events is as before, where none was taken; else it is within
--- the bounds of the latest that was taken, with the slots to which those before it led. That one
--- has no fault in the globals to which those before it led, and all after it are refused.
+-- what a node has counted after these events is as before, where none was accepted; else it is
+-- within the bounds of the latest that was accepted, with the slots to which those before it led.
+-- That one has no fault in the globals to which those before it led, and all after it are
+-- rejected.
 pub data CountsLatest (old new : NodeState) (events : List EventModel) : Type 0 where
   NoneTaken : AreRefused (length new.slots) new.globals events → new.counts ≡ old.counts
       → CountsLatest old new events
@@ -54,8 +55,8 @@ pub data CountsLatest (old new : NodeState) (events : List EventModel) : Type 0 
       → AreRefused (length new.slots) new.globals later → HasCome old earlier slots
       → IsBounded slots latest new.counts → CountsLatest old new events
 
--- so many of the events were taken, and before the next memory may be wanting; what stands at each
--- number ran as by itself, and the records are added behind those of before
+-- this many of the events were processed, and at the next an allocation may fail; the slot of each
+-- number, or none, ran as by itself, and the new records follow the old ones
 pub record HasRun (old new : NodeState) (out out_then : OutboxState) (events : List Event)
     (taken : ℕ) : Type 0 where
   pub within : taken ≤ length events

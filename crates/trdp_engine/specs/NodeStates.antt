@@ -9,7 +9,8 @@ use Rattle.trdp_filter.specs.Globals.{first_globals}
 use Rattle.trdp_store.specs.declared.counts.Counts.{Counts}
 use Rattle.trdp_model.specs.Slots.{SlotState, empty_slot}
 
--- a node: its configuration, its globals, its slots, and what the latest event that it took cost
+-- a node: its configuration, its globals, its slots, and what the latest event that it accepted
+-- cost
 pub record NodeState : Type 0 where
   pub config : ConfigModel
   pub globals : Globals

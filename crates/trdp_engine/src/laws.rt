@@ -1,4 +1,4 @@
-//! What two nodes give a slot that sees the same in both.
+//! Two nodes serve a slot alike where it sees the same in both.
 
 ghost use Rattle.trdp_engine.specs.NodeStates.{uncounted};
 ghost use Rattle.std.specs.Prelude.{◌≡◌, ℕ, slice_get, map, take};
@@ -13,11 +13,11 @@ use crate::node::Node;
 use trdp_model::Event;
 use trdp_outbox::Outbox;
 
-/// Runs two nodes over two lists of events, and answers how many each took. Of each node it says
-/// all that [`Node::run`] says. Where the nodes have equal datasets, address, ports and globals, a
-/// number at which the same stands in both (a slot, or none), and which sees the same of the events
-/// that were taken, has the same afterwards and has got the same records. The nodes may differ in
-/// everything about the others.
+/// Runs two nodes over two lists of events, and returns how many each processed. Its contract
+/// holds all that [`Node::run`] says of each node, and more. Let the nodes have equal datasets,
+/// address, ports and globals, let a number have the same in both (a slot, or none), and let it
+/// see the same of the events that were processed. Then it has the same afterwards, and got the
+/// same records. The nodes may differ in everything about the other numbers.
 pub fn run_both(
     first: &mut Node,
     second: &mut Node,

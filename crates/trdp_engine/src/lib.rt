@@ -1,10 +1,10 @@
 //! The node: events come in, and each slot gets its answers and telegrams.
 //!
-//! A [`Node`] is made of a configuration ([`Node::new`]) and takes [`Event`]s: the calls of its
-//! slots, datagrams, moments, topology counts and redundancy roles ([`Node::step`], [`Node::run`]).
-//! What they give is appended to an [`Outbox`] as [`Record`]s: answers, indications and telegrams,
-//! each with the number of its slot. A node has no socket, no clock and no thread of its own. Each
-//! slot gets what it would get alone: the clause `alone` of [`Node::run`].
+//! A [`Node`] is made of a configuration ([`Node::new`]) and processes [`Event`]s: the calls of
+//! its slots, datagrams, moments, topology counters, redundancy roles and new slots
+//! ([`Node::step`], [`Node::run`]). It appends the resulting [`Record`]s to an [`Outbox`]:
+//! answers, indications and telegrams, each with the number of its slot. A node has no socket, no
+//! clock and no thread of its own: `trdp_daemon` runs one over sockets.
 //!
 //! ```text
 //! let mut node = Node::new(alloc, config)?;
@@ -14,21 +14,19 @@
 //!     Event::Call { slot: 0, call: Call::Put { handle: 1, bytes: b"\x0a\x0b" } },
 //!     Event::Moment(100_000),
 //! ];
-//! node.run(&events, &mut out);                    // 3: all were taken
+//! node.run(&events, &mut out);                    // 3: all were processed
 //! out.get(2);                                     // Send { .. }: the publisher's first telegram
 //! ```
 //!
-//! A value is handed over as an item by [`Node::put_value`], and looked at from outside by
-//! [`Node::peek`] and [`Node::value_of`]; [`Node::counts`] shows what the latest event cost, and
-//! [`Node::next_due`] when something is due next. The rules that all this follows are those of
-//! `trdp_model`.
+//! [`Node::put_value`] puts a value that is passed as an item. [`Node::peek`] and
+//! [`Node::value_of`] show a subscription, [`Node::counts`] what the latest event cost, and
+//! [`Node::next_due`] when something is due next.
 //!
-//! What no contract can say is that memory is there. A `run` that stops before the first event
-//! that may lack it (a publishing, a subscription, or an event at which the outbox lacks room for
-//! the most that such a call, or objects of the kinds that act, may give), a `run_both` of two
-//! such runs, and a `value_of` that answers want of memory wherever it could show an item meet
-//! their contracts, since memory may be lacking; the worked examples (`trdp_node_tests`) show that
-//! with ample memory every event is taken and every item shown.
+//! It is proved that a node follows the rules of `trdp_model`: each slot gets what it would get
+//! alone (the clause `alone` of [`Node::run`]). What is counted of an event is within its bounds
+//! (the clause `cost` of [`Node::step`]). [`run_both`] says that two nodes serve a slot alike
+//! where they differ only in other slots. A step fails with `OutOfMemory` only at the events that
+//! [`Node::step`] lists.
 #![tactic(auto)]
 
 mod laws;

@@ -1,4 +1,4 @@
-//! What a moment does to the objects of all slots.
+//! What the objects of all slots do at a moment.
 
 ghost use Rattle.std.specs.Prelude.{◌≡◌, ◌+◌, ◌*◌, ◌^◌, ◌<◌, ◌≤◌, ◌++◌, ℕ, length};
 ghost use Rattle.std.specs.Prelude.{Some, slice_get};
@@ -51,10 +51,10 @@ fn push_again(object: &AnyObject, head: &MdHead, s: u16, out: &mut Outbox)
     }
 }
 
-/// That an object fires which is due.
+/// The deed of a moment: an object that is due fires.
 #[derive(Clone, Copy)]
 pub struct Firing<'a> {
-    /// The moment, the topology counts and the groups that are led.
+    /// The moment, the topology counters and the redundancy groups that the node leads.
     pub globals: &'a Globals,
 }
 

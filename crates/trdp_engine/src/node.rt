@@ -32,19 +32,21 @@ mod moments;
 /// that are added.
 #[derive(Drop)]
 pub struct Node {
-    /// Where new objects take their memory from.
+    /// The allocator that new objects take their memory from.
     alloc: Global,
-    /// The node's address and ports, its datasets, and the quotas of the slots that it begins with.
+    /// The node's address and ports, its datasets, and the quotas of the slots that it starts
+    /// with.
     config: NodeConfig,
-    /// Its latest moment in microseconds, its topology counts, and the groups that it leads.
+    /// Its latest moment in microseconds, its topology counters, and the redundancy groups that it
+    /// leads.
     globals: Globals,
-    /// The objects of its slots, 1 to 16, in the order of the configuration, those that were added
-    /// behind these.
+    /// The objects of its slots, 1 to 16, in the order of the configuration, then those that were
+    /// added.
     store: Store,
     /// The objects that act at the telegram that is being handled; between events it says nothing.
     /// It has room for all objects, so that a telegram takes no memory for it.
     noted: Vec<Addressee>,
-    /// What the latest event that it took cost.
+    /// What the latest event that it accepted cost.
     counts: Counts,
 }
 
@@ -87,7 +89,7 @@ impl Node {
     /// to 16.
     ///
     /// # Errors
-    /// The configuration comes back for want of memory.
+    /// The configuration, where an allocation fails.
     pub fn new(alloc: Global, config: NodeConfig) -> Result<Node, NodeConfig>
         ensures opened { IfOk result (λ node. node ≡ opened_node config) }
         ensures few { IfOk result (λ node. length node.slots ≤ 16) }
@@ -121,7 +123,7 @@ impl Node {
         self.globals.now
     }
 
-    /// Takes new topology counts.
+    /// Sets the topology counters (etbTopoCnt and opTrnTopoCnt).
     fn step_topology(&mut self, topo: Topo)
         ensures globals { self.new.globals ≡ globals_after self.old.globals (TopologyIs topo) }
         ensures slots { self.new.slots ≡ self.old.slots }
@@ -132,7 +134,7 @@ impl Node {
         self.counts = Counts::none();
     }
 
-    /// Takes the node's role in a redundancy group.
+    /// Sets the node's role in a redundancy group, 1 to 255 (profile).
     ///
     /// # Errors
     /// `NoGroup` for group 0.
@@ -156,7 +158,7 @@ impl Node {
         Ok(())
     }
 
-    /// Takes a call: room for its answer comes first.
+    /// Processes a call: it makes room for the answer first.
     ///
     /// # Errors
     /// The first that applies of `NoSlot` and `OutOfMemory`.
@@ -196,8 +198,8 @@ impl Node {
         Ok(())
     }
 
-    /// Takes a datagram. One that is no telegram, or whose topology counts don't match the node's,
-    /// changes nothing.
+    /// Processes a datagram. One that is no telegram, or whose topology counters don't match the
+    /// node's, changes nothing.
     ///
     /// # Errors
     /// `OutOfMemory`, where it concerns a slot.
@@ -270,14 +272,14 @@ impl Node {
         Ok(())
     }
 
-    /// Takes one event, and appends its records to the outbox.
+    /// Processes one event, and appends its records to the outbox.
     ///
     /// # Errors
-    /// The event's own fault, as [`Event`] lists it. `OutOfMemory` comes last, and only at a
-    /// call, at a moment by which something is due, at a datagram that concerns a slot, or where a
-    /// slot is opened; where the outbox has room for the most that such a call, or objects of the
-    /// kinds that act, may give, only at Publish, Subscribe, Request and AddSlot. Node and outbox
-    /// are as before.
+    /// The event's own fault, as [`Event`] lists it. `OutOfMemory` comes last, and only at a call,
+    /// at a moment by which something is due, at a datagram that concerns a slot, or at AddSlot.
+    /// Where the outbox has room for the most that such a call, or objects of the kinds that act,
+    /// may record, it comes only at Publish, Subscribe, Request and AddSlot. Node and outbox are
+    /// as before.
     pub fn step(&mut self, event: &Event<'_>, out: &mut Outbox) -> Result<(), NodeFault>
         ensures fault { FaultIs
             (refused_as (length self.old.slots) self.old.globals (event_model event.now)) result }
@@ -319,9 +321,9 @@ impl Node {
         }
     }
 
-    /// Gives the publisher of that handle in slot `slot` a value that is handed over as an item:
-    /// the call Put with the bytes that the item is spelled by as a value of the publisher's
-    /// dataset. An item without such bytes is the one record Refused.
+    /// Gives the publisher of that handle in slot `slot` a value that is passed as an item. It is
+    /// the call Put with the bytes of the item as a value of the publisher's dataset. For an item
+    /// without such bytes the one record is Refused.
     ///
     /// # Errors
     /// `NoSlot`, and last `OutOfMemory`; node and outbox are as before. Refused: the first that

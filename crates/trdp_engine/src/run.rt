@@ -12,11 +12,11 @@ use trdp_model::{Event, is_out_of_memory};
 use trdp_outbox::Outbox;
 
 impl Node {
-    /// Takes events in turn, and answers how many were taken. It goes on after an event that is
-    /// refused for a cause of its own, and stops before the first that lacks memory: only before a
-    /// call, a moment by which something is due, a datagram that concerns a slot, or the opening of
-    /// a slot, and, where the outbox has room for the most that such a call, or objects of the
-    /// kinds that act, may give, only before Publish, Subscribe, Request and AddSlot.
+    /// Processes events in turn, and returns how many. It goes on after an event that is rejected
+    /// for a fault of its own, and stops before the first for which an allocation fails. That can
+    /// only be a call, a moment by which something is due, a datagram that concerns a slot, or
+    /// AddSlot. Where the outbox has room for the most that such a call, or objects of the kinds
+    /// that act, may record, it can only be Publish, Subscribe, Request or AddSlot.
     pub fn run(&mut self, events: &[Event<'_>], out: &mut Outbox) -> usize
         ensures within { result ≤ length events.now }
         ensures stops { IfSome (slice_get events.now result)

@@ -1,4 +1,4 @@
-//! What a new node begins with.
+//! The parts of a new node.
 
 ghost use Rattle.std.specs.Prelude.{◌≡◌, ◌*◌, ◌≤◌, length, IfOk, map, vec_capacity};
 ghost use Rattle.trdp_table.specs.TableLaws.{object_limit};
@@ -17,7 +17,7 @@ const NOTED_MAX: usize = 24_576;
 /// The quotas of each slot of the configuration.
 ///
 /// # Errors
-/// Want of memory for the list.
+/// [`AllocError`] where there is no memory for the list.
 fn quotas_of(alloc: Global, config: &NodeConfig) -> Result<Vec<Quotas>, AllocError>
     ensures quotas { IfOk result
         (λ quotas. quotas.items ≡ map (λ slot. slot.quotas) config.now.slots) }
@@ -33,7 +33,7 @@ fn quotas_of(alloc: Global, config: &NodeConfig) -> Result<Vec<Quotas>, AllocErr
 /// The empty store of a configuration, and room to note all objects that it can hold.
 ///
 /// # Errors
-/// Want of memory for one of them.
+/// [`AllocError`] where there is no memory for one of them.
 pub fn parts(alloc: Global, config: &NodeConfig) -> Result<(Store, Vec<Addressee>), AllocError>
     ensures slots { IfOk result
         (λ parts. slots_of parts.0 ≡ map (λ slot. empty_slot slot.quotas) config.now.slots) }

@@ -1,5 +1,5 @@
 -- The register's steps are the division's.
--- For `PieceLemmas` and `ZeroLemmas`, on which all functions of the register stand.
+-- For `PieceLemmas` and `ZeroLemmas`, on which all functions of the register rest.
 -- By induction on the bits: each is shifted out, and adds the divisor where a 1 left the register.
 use Rattle.std.proofs.Math.Nat.{one-le-pow, pow-succ', pow-le-pow_right}
 use Rattle.std.proofs.Common.{subst, append_assoc, ◌≡◌, ℕ, zero, suc, ◌+◌, ◌-◌, ◌*◌, ◌/◌, ◌%◌}

@@ -84,7 +84,7 @@ past_four a b c d r ha hb hc hd =
     ap (λ (x : ℕ). past_zeros 4 (bit_xor r x)) same
     ∙ sym (past-number bytes r (ha, (hb, (hc, (hd, tt)))))
 
--- what is left behind the first k, one by one
+-- what is left after the first k, one by one
 listed : (xs : List ℕ) (k n : ℕ) → length xs ≡ k + n
     → drop k xs ≡ map (λ i. slice_index_or xs i 0) (range_with_len k n)
 listed xs k zero e = drop_all k xs (omega (arith, e))

@@ -9,6 +9,7 @@ generator = bits_from_top 33 0x104C11DB7
 
 -- the message and 32 zeros, the first 32 bits inverted, divided until 32 bits are left, and these
 -- inverted; the first of them, that of x^31, is the number's lowest bit
+-- rule: telegram.crc
 unfoldable pub frame_check_of : List ℕ → ℕ
 frame_check_of bytes =
     number_from_bottom (inverted (divide generator (8 * length bytes)

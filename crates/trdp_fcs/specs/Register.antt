@@ -1,6 +1,6 @@
--- Private to this crate: the division as its register of 32 bits takes it, for the contracts of
+-- Private to this crate: the division as its register of 32 bits does it, for the contracts of
 -- src/register.rt; the frame check is defined without it. The register's lowest bit is the first
--- bit of the list that is divided; the divisor stands without its first bit, that of x^31 lowest.
+-- bit of the list that is divided; the divisor is without its first bit, that of x^31 lowest.
 use Rattle.std.specs.Prelude.{ℕ, zero, suc, ◌*◌, ◌/◌, ◌%◌, ◌==◌}
 use Rattle.std.specs.Prelude.{if◌then◌else◌, List, [], ◌∷◌, map, bit_xor}
 use Rattle.std.specs.List.{range_with_len}

@@ -1,5 +1,5 @@
-//! What the frame check finds: one damaged byte. It is the standard's claim for it at its smallest;
-//! a burst of up to 32 bits is found too, and isn't claimed here.
+//! What the frame check finds: one damaged byte. That is the smallest part of what the standard
+//! claims for it: a burst of up to 32 bits is found too, and isn't claimed here.
 
 ghost use Rattle.std.specs.Prelude.{◌≢◌, ℕ, List};
 ghost use Rattle.trdp_fcs.specs.Damage.{DifferInOneByte};

@@ -1,6 +1,6 @@
 //! The frame check sequence of TRDP telegram headers: the CRC-32 of IEEE 802.3.
 //!
-//! [`frame_check`] is that of bytes that lie together; a [`Running`] check takes them in pieces.
+//! [`frame_check`] is the check of one list of bytes; a [`Running`] check is fed with pieces.
 //!
 //! ```text
 //! frame_check(b"123456789")            // 0xcbf43926
@@ -11,11 +11,14 @@
 //! running.finish()                     // the same
 //! ```
 //!
-//! What the check is stands in `specs/FrameCheck.antt`, as the remainder of a division of bits.
-//! The code here keeps the remainder in a register and takes eight bytes of the message at once,
-//! by tables; its proof shows that this is that division.
+//! `trdp_head` writes and checks headers with it.
 //!
-//! What no contract can say is how fast this is: `bench/` measures it.
+//! The check is defined in `specs/FrameCheck.antt`, as the remainder of a division of bits. The
+//! code keeps the remainder in a register and looks up eight bytes of the message at once in
+//! tables.
+//!
+//! Proved: both give that remainder, however the bytes are cut into pieces, and one damaged byte
+//! changes it. How fast this is no contract says: `bench/` measures it.
 #![tactic(auto)]
 
 ghost use Rattle.std.specs.Prelude.{◌≡◌};

@@ -1,8 +1,8 @@
 //! The register of the division: what is left of the message so far, the next bit lowest.
 //!
-//! Bytes are taken eight at once, then four, then one by one. They act as zeros do that follow
-//! their sum with the register. Past zeros each byte of the register acts for itself, and what it
-//! leads to stands in a table.
+//! Eight bytes are looked up at once, then four, then one by one. Bytes act as zeros do after
+//! their sum with the register. Past zeros each byte of the register acts for itself, and a table
+//! has what it leads to.
 
 ghost use Rattle.std.specs.Prelude.{◌≡◌, bit_xor};
 ghost use Rattle.trdp_fcs.specs.Register.{past_zeros, past, tables};

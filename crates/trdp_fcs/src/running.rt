@@ -30,7 +30,7 @@ impl Running {
         Running { check: 0 }
     }
 
-    /// Takes the next piece: whatever bytes came before, it stands for these and the piece then.
+    /// Adds the next piece: the check is then that of all bytes before and of the piece.
     pub fn feed(&mut self, bytes: &[u8])
         ensures { (before : List ℕ) → self.old ≡ frame_check_of before
             → self.new ≡ frame_check_of (before ++ bytes.now) }

@@ -16,9 +16,10 @@ unfoldable pub leads : Groups → ℕ → Bool
 leads groups group = slice_index_or groups.led group false
 
 -- the redundancy groups with the node as leader of this one, or as follower
+-- rule: role.group
 unfoldable pub with_role : Groups → ℕ → Bool → Groups
 with_role groups group leader = record { led = slice_set groups.led group leader }
 
--- node globals before the first event: moment 0, both topology counts 0, no group led
+-- node globals before the first event: time 0, both topology counters 0, no group led
 abbrev pub first_globals : Globals
 first_globals = record { now = 0; topo = record { etb = 0; op_trn = 0 }; led = no_groups }

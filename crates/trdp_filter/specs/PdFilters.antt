@@ -7,8 +7,9 @@ use Rattle.trdp_filter.specs.declared.filters.PdFilter.{PdFilter}
 use Rattle.trdp_filter.specs.Addresses.{in_source_range, is_destination}
 use Rattle.trdp_filter.specs.Counts.{topo_valid}
 
--- receive filter: equal comId, source in range, destination address, and counts that match the
+-- receive filter: equal comId, source in range, destination address, and counters that match the
 -- filter's and the node's
+-- rule: subscription.filter
 unfoldable pub pd_passes : PdFilter → Place → Place → PdHead → Topo → Bool
 pd_passes filter src dst head node =
     filter.com_id == head.com_id && in_source_range filter.low filter.high src.ip

@@ -1,4 +1,4 @@
--- Telegrams as they reach the objects of a slot, apart from where their bytes lie.
+-- Telegrams as they reach the objects of a slot, apart from where their bytes are.
 use Rattle.std.specs.Prelude.{ℕ, List, length, ◌≤◌}
 use Rattle.trdp_base.specs.declared.place.Place.{Place}
 use Rattle.trdp_head.specs.PdTelegrams.{PdTelegram}
@@ -7,12 +7,12 @@ use Rattle.trdp_filter.specs.declared.telegram.Telegram.{Telegram}
 use Rattle.trdp_filter.specs.declared.telegram.Telegram.TheVariants.{Pd, Md}
 use Rattle.trdp_head.specs.Limits.{md_payload_limit, pd_payload_limit}
 
--- a telegram with the places that its datagram came from and was sent to
+-- a telegram with the socket addresses that its datagram came from and was sent to
 pub data TelegramModel : Type 0 where
   PdIs : (src dst : Place) (telegram : PdTelegram) → TelegramModel
   MdIs : (src dst : Place) (telegram : MdTelegram) → TelegramModel
 
--- a telegram, apart from where its payload lies
+-- a telegram, apart from where its payload is
 abbrev pub telegram_model : Telegram → TelegramModel
 telegram_model (Pd src dst view) =
     PdIs src dst (record { head = view.head; payload = view.payload.now })

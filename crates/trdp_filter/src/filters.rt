@@ -1,4 +1,4 @@
-//! What a node lets in: the match of topology counts, and both receive filters, which stand on it.
+//! What a node lets in: the match of topology counters, and both receive filters, which use it.
 
 ghost use Rattle.std.specs.Prelude.{◌≡◌};
 ghost use Rattle.trdp_filter.specs.Counts.{counts_valid, topo_valid as topo_match};
@@ -8,7 +8,7 @@ ghost use Rattle.trdp_filter.specs.MdFilters.{is_com_id, matches_uri, md_passes}
 use trdp_base::{Ip, Place, Topo, Uri};
 use trdp_head::{MdHead, PdHead};
 
-/// Whether two topology counts match: one of them is 0, which stands for any, or they are equal
+/// Whether two topology counters match: one of them is 0, which matches any, or they are equal
 /// (IEC 61375-2-3).
 pub fn valid(a: u32, b: u32) -> bool
     ensures { result ≡ counts_valid a b }
@@ -16,7 +16,7 @@ pub fn valid(a: u32, b: u32) -> bool
     a == 0 || b == 0 || a == b
 }
 
-/// Whether two pairs of topology counts match, each count with its own (IEC 61375-2-3).
+/// Whether two pairs of topology counters match, each counter with its own (IEC 61375-2-3).
 pub fn topo_valid(a: Topo, b: Topo) -> bool
     ensures { result ≡ topo_match a b }
 {
@@ -34,17 +34,17 @@ pub struct PdFilter {
     pub high: Ip,
     /// The destination address that passes; 0 for any.
     pub dest: Ip,
-    /// The topology counts that those of a telegram must match; each is 0 for any.
+    /// The topology counters that those of a telegram must match; each is 0 for any.
     pub topo: Topo,
 }
 
 impl PdFilter {
-    /// Whether a telegram from `src` to `dst` under this header passes, at a node with the
-    /// topology counts `node` (profile).
+    /// Whether a telegram from `src` to `dst` with this header passes, at a node with the topology
+    /// counters `node` (profile).
     ///
     /// It passes by the comId, the source address, the destination address, and its topology
-    /// counts, which must match the filter's and the node's. Ports, the message type and the reply
-    /// fields are not looked at.
+    /// counters, which must match the filter's and the node's. Ports, the message type and the
+    /// reply fields are not looked at.
     #[tactic(auto, unfolding(crate::specs::PdFilters::pd_passes, crate::specs::Addresses::in_source_range, crate::specs::Addresses::is_destination))]
     pub fn passes(&self, src: Place, dst: Place, head: &PdHead, node: Topo) -> bool
         ensures { result ≡ pd_passes self.now src dst head.now node }
@@ -71,11 +71,11 @@ pub struct MdFilter {
     pub dest: Ip,
     /// The destination URI that passes; an empty one for any.
     pub uri: Uri,
-    /// The topology counts that those of a telegram must match; each is 0 for any.
+    /// The topology counters that those of a telegram must match; each is 0 for any.
     pub topo: Topo,
 }
 
-/// Whether the comId is the wanted one; None stands for any.
+/// Whether the comId is the wanted one; None matches any.
 #[tactic(auto, unfolding(crate::specs::MdFilters::is_com_id))]
 fn is_com_id(wanted: Option<u32>, com_id: u32) -> bool
     ensures { result ≡ is_com_id wanted com_id }
@@ -86,7 +86,7 @@ fn is_com_id(wanted: Option<u32>, com_id: u32) -> bool
     }
 }
 
-/// Whether the URI is the wanted one; an empty one stands for any.
+/// Whether the URI is the wanted one; an empty one matches any.
 #[tactic(auto, unfolding(crate::specs::MdFilters::matches_uri))]
 fn is_uri(wanted: &Uri, uri: &Uri) -> bool
     ensures { result ≡ matches_uri wanted.now uri.now }
@@ -95,11 +95,11 @@ fn is_uri(wanted: &Uri, uri: &Uri) -> bool
 }
 
 impl MdFilter {
-    /// Whether a telegram from `src` to `dst` under this header passes, at a node with the
-    /// topology counts `node` (profile).
+    /// Whether a telegram from `src` to `dst` with this header passes, at a node with the topology
+    /// counters `node` (profile).
     ///
     /// It passes by the comId, the source address, the destination address, the destination URI,
-    /// and its topology counts, which must match the filter's and the node's. Ports, the source
+    /// and its topology counters, which must match the filter's and the node's. Ports, the source
     /// URI, the message type and the other fields are not looked at.
     #[tactic(auto, unfolding(crate::specs::MdFilters::md_passes, crate::specs::Addresses::in_source_range, crate::specs::Addresses::is_destination))]
     pub fn passes(&self, src: Place, dst: Place, head: &MdHead, node: Topo) -> bool

@@ -12,12 +12,13 @@ pub struct Groups {
     led: [bool; 256],
 }
 
-/// What an event tells the whole node, and what each object may look at (profile).
+/// What events set for the whole node, and what each object may look at (profile).
 #[derive(Clone, Copy)]
 pub struct Globals {
-    /// The latest moment, in microseconds since the node began; 0 before the first.
+    /// The time of the latest moment event, in microseconds since the node began; 0 before the
+    /// first.
     pub now: u64,
-    /// The node's topology counts; each is 0, for any, until it is told.
+    /// The node's topology counters; each is 0, for any, until an event sets it.
     pub topo: Topo,
     /// The redundancy groups that the node leads; in all others, and at first in all, it follows.
     pub led: Groups,

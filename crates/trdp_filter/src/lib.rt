@@ -1,19 +1,20 @@
-//! What a node lets in: topology counts, the globals that all objects see, telegrams, and receive
-//! filters.
+//! What a node lets in: the match of topology counters, and receive filters.
 //!
-//! A [`PdFilter`] is what a subscription takes, an [`MdFilter`] what a listener hears. [`Globals`]
-//! are the moment, the topology counts and the redundancy groups that the node leads, which all
-//! objects see alike; a [`Telegram`] is what reaches them.
+//! A [`PdFilter`] says which telegrams a subscription receives, an [`MdFilter`] which a listener
+//! hears. [`Globals`] are the time, the topology counters and the redundancy groups that the node
+//! leads; all objects see them alike. A [`Telegram`] is what reaches the objects.
 //!
 //! ```text
-//! topo_valid(telegram_topo, node_topo) // each count with its own; 0 matches any
+//! topo_valid(telegram_topo, node_topo) // each counter with its own; 0 matches any
 //! filter.passes(src, dst, &view.head, globals.topo)
 //! ```
 //!
-//! The topology counts are those of IEC 61375-2-3:2015, Annex A; what a filter looks at is our own
-//! choice (profile). Nothing here takes memory, and no call is refused.
+//! The topology counters are those of IEC 61375-2-3:2015, Annex A; what a filter looks at is our
+//! own choice (profile). Nothing here takes memory, and no call is refused. The objects of
+//! `trdp_pd` and `trdp_md` filter with it.
 //!
-//! What no contract can say is that these filters are the ones that a train wants.
+//! Proved: a telegram passes exactly by these rules. That these are the filters that a train needs
+//! no contract can say.
 #![tactic(auto)]
 
 mod filters;

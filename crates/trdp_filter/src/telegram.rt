@@ -3,25 +3,25 @@
 use trdp_base::Place;
 use trdp_head::{MdView, PdView};
 
-/// A telegram with the places that its datagram came from and was sent to.
+/// A telegram with the socket addresses that its datagram came from and was sent to.
 #[derive(Clone, Copy, Debug)]
 pub enum Telegram<'a> {
     /// Process data.
     Pd {
-        /// Where its datagram came from.
+        /// The address and port that its datagram came from.
         src: Place,
-        /// Where its datagram was sent to.
+        /// The address and port that its datagram was sent to.
         dst: Place,
-        /// Its header and payload, which lie in the datagram.
+        /// Its header and payload, within the datagram.
         view: PdView<'a>,
     },
     /// Message data.
     Md {
-        /// Where its datagram came from.
+        /// The address and port that its datagram came from.
         src: Place,
-        /// Where its datagram was sent to.
+        /// The address and port that its datagram was sent to.
         dst: Place,
-        /// Its header and payload, which lie in the datagram.
+        /// Its header and payload, within the datagram.
         view: MdView<'a>,
     },
 }

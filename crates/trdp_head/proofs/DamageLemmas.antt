@@ -1,4 +1,4 @@
--- A header in which one byte is another one has another frame check, or stores another one.
+-- A header in which one byte differs has another frame check, or stores another one.
 -- For `one_damaged_byte_is_found`.
 -- By: a byte before the check changes the check, and a byte of the check changes what is stored.
 use Rattle.std.proofs.Common.{◌≡◌, ◌≢◌, ℕ, suc, ◌+◌, ◌-◌, ◌*◌, ◌/◌, ◌^◌, ◌<◌, ◌≤◌, Bool, true}
@@ -69,7 +69,7 @@ checked_once offset first second d one_checked other_checked =
       | inr behind ↦ in_check behind
     ]
   where
-    -- where the byte stands
+    -- the index of the byte
     n : ℕ
     n = length d.front
 
@@ -77,14 +77,14 @@ checked_once offset first second d one_checked other_checked =
     stored : List ℕ → List ℕ
     stored xs = take 4 (drop offset xs)
 
-    -- each list stores the check of what stands before it
+    -- each list stores the check of what comes before it
     one_stores : le (stored first) ≡ frame_check_of (take offset first)
     one_stores = eqb_same _ _ one_checked
 
     other_stores : le (stored second) ≡ frame_check_of (take offset second)
     other_stores = eqb_same _ _ other_checked
 
-    -- what counts of a list is in its front
+    -- the front of a list has all that is checked
     covered : (xs : List ℕ) → take offset (take (offset + 4) xs) ≡ take offset xs
     covered xs = take-take offset (offset + 4) xs (omega arith)
 

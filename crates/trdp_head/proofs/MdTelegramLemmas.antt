@@ -88,7 +88,7 @@ md_head_in-telegram t = rw (
   t.dest_uri,
 ) refl
 
--- what the model function answers where there is no fault
+-- the value of the model function where there is no fault
 pub md_telegram_of-no_fault : (bytes : List ℕ) (kind : MdKind) (head : MdHead) (payload : List ℕ)
     → md_fault_of bytes ≡ None → md_kind_of (field 6 2 bytes) ≡ Some kind
     → head ≡ md_head_in bytes kind → payload ≡ take (field 20 4 bytes) (drop 116 bytes)
@@ -104,7 +104,7 @@ md_telegram_of-no_fault bytes kind head payload none known fields content =
     ∙ ap (λ (p : List ℕ).
     Some (let found : MdTelegram = record { head = head; payload = p } in found)) (sym content)
 
--- what the model function answers at a telegram
+-- the value of the model function at a telegram
 pub md_telegram-is : {bytes : List ℕ} {head : MdHead} {payload : List ℕ}
     → IsMdTelegram bytes head payload
     → md_telegram_of bytes ≡ Some (record { head = head; payload = payload })

@@ -82,7 +82,7 @@ head_in-telegram t = rw (
   t.reply_ip,
 ) refl
 
--- what the model function answers where there is no fault
+-- the value of the model function where there is no fault
 pub pd_telegram_of-no_fault : (bytes : List ℕ) (kind : PdKind) (head : PdHead) (payload : List ℕ)
     → pd_fault_of bytes ≡ None → pd_kind_of (field 6 2 bytes) ≡ Some kind
     → head ≡ head_in bytes kind → payload ≡ take (field 20 4 bytes) (drop 40 bytes)
@@ -98,7 +98,7 @@ pd_telegram_of-no_fault bytes kind head payload none known fields content =
     ∙ ap (λ (p : List ℕ).
     Some (let found : PdTelegram = record { head = head; payload = p } in found)) (sym content)
 
--- what the model function answers at a telegram
+-- the value of the model function at a telegram
 pub telegram-is : {bytes : List ℕ} {head : PdHead} {payload : List ℕ}
     → IsPdTelegram bytes head payload
     → pd_telegram_of bytes ≡ Some (record { head = head; payload = payload })

@@ -1,6 +1,6 @@
 -- The faults of bytes, and what it takes to have none.
 -- For `read_pd` and `read_md`, and for the lemmas on telegrams of either kind.
--- By: a chain of tests gives what the first of them that holds gives.
+-- By: a chain of tests has the value of the first of them that holds.
 use Rattle.std.proofs.Common.{◌≡◌, ℕ, ◌+◌, ◌-◌, ◌<◌, ◌≤◌, Bool, true, false, cond, eqb, ltb}
 use Rattle.std.proofs.Common.{List, length, take, drop, slice_index, Option, Some, None, Ok}
 use Rattle.std.proofs.Common.{Err, refl, sym, ap, subst, ◌∙◌, arith, eq-eqb, ◌⊎◌, inl, inr}
@@ -21,7 +21,7 @@ use Rattle.trdp_head.specs.Faults.{prefix_fault_of, payload_fault_of, fault_of}
 cond-skip : {X : Type 0} (b : Bool) (x y : X) → b ≡ false → cond b x y ≡ y
 cond-skip b x y h = rw h refl
 
--- no fault comes of a test that holds
+-- no fault results from a test that holds
 pub cond-no_fault : {X : Type 0} (b : Bool) (x : X) (rest : Option X)
     → cond b (Some x) rest ≡ None → (b ≡ false) × (rest ≡ None)
 cond-no_fault true x rest h = absurd cc
@@ -34,13 +34,13 @@ not-false false h = absurd cc
 pub some-inj : {X : Type 0} (x y : X) → Some x ≡ Some y → x ≡ y
 some-inj x y e = cc
 
--- what holds of the error that is answered
+-- what holds of the error that is returned
 pub err_answers : {T E : Type 0} (r : Result T E) (fault : E) (P : E → Type 0)
     → IsErrAnd r (λ given. given ≡ fault) → P fault → IfErr r P
 err_answers (Ok x) fault P h p = absurd h
 err_answers (Err y) fault P h p = subst P (sym h) p
 
--- a chain of tests gives what the first of them that holds gives
+-- a chain of tests has the value of the first of them that holds
 pub cond-some : {X : Type 0} (b : Bool) (x y : X) (rest : Option X)
     → cond b (Some x) rest ≡ Some y → ((b ≡ true) × (x ≡ y)) ⊎ (rest ≡ Some y)
 cond-some true x y rest h = inl (refl, some-inj x y h)
@@ -92,7 +92,7 @@ pub telegram-no_fault : {size longest : ℕ} {bytes : List ℕ} {prefix : Prefix
 telegram-no_fault {size} {longest} {bytes} t known e =
     fault-payload size longest known bytes (prefix-no_fault t) e ∙ payload-no_fault t
 
--- what stands behind the header is shorter than the payload
+-- what follows the header is shorter than the payload
 pub payload_past : (size n : ℕ) (bytes rest : List ℕ) → rest ≡ drop size bytes
     → n ≡ field 20 4 bytes → (n < 0) ⊎ (length rest < n)
     → payload_fault_of size bytes ≡ Some Length
@@ -104,7 +104,7 @@ payload_past size n bytes rest behind is past =
     ] in
     rw (lt-ltb (length bytes - size) (field 20 4 bytes) lt) refl
 
--- the payload lies in what stands behind the header
+-- the payload is within what follows the header
 pub payload_within : (size n : ℕ) (bytes rest : List ℕ) → rest ≡ drop size bytes
     → n ≡ field 20 4 bytes → n ≤ length rest → payload_fault_of size bytes ≡ None
 unfolding payload_fault_of
@@ -113,7 +113,7 @@ payload_within size n bytes rest behind is within =
     omega (arith, within, is, ap length behind, length-drop size bytes) in
     rw (le-ltb (length bytes - size) (field 20 4 bytes) le) refl
 
--- the payload is what stands there, as far as it goes
+-- the payload is what is there, as far as it goes
 pub payload_is : (size n : ℕ) (bytes rest payload : List ℕ) → rest ≡ drop size bytes
     → n ≡ field 20 4 bytes → payload ≡ slice_range rest 0 n
     → payload ≡ take (field 20 4 bytes) (drop size bytes)

@@ -1,10 +1,11 @@
--- The frame check of a header, which stands behind the bytes that it covers.
+-- The frame check of a header, which follows the bytes that it covers.
 use Rattle.std.specs.Prelude.{ℕ, ◌==◌, Bool, List, ◌++◌, take}
 use Rattle.trdp_fcs.specs.FrameCheck.{frame_check_of}
 use Rattle.trdp_head.specs.Fields.{little_field, le_bytes}
 
 -- the four bytes at an offset are the frame check of all bytes before them, least significant byte
 -- first
+-- rule: telegram.check
 unfoldable pub is_checked : ℕ → List ℕ → Bool
 is_checked offset bytes = little_field offset 4 bytes == frame_check_of (take offset bytes)
 

@@ -9,6 +9,7 @@ use Rattle.trdp_head.specs.Limits.{md_telegram_limit}
 
 -- the bytes are a telegram with this header and payload; what follows the first zero byte of a URI
 -- is not looked at
+-- rule: telegram.verbatim
 pub record IsMdTelegram (bytes : List ℕ) (head : MdHead) (payload : List ℕ) : Type 0 where
   pub telegram : IsTelegram 116 md_telegram_limit bytes (md_prefix head) payload
   pub status : cast_signed w32 (field 24 4 bytes) ≡ head.status

@@ -4,8 +4,9 @@ use Rattle.trdp_head.specs.declared.prefix.Prefix.{Prefix}
 use Rattle.trdp_head.specs.Fields.{field}
 use Rattle.trdp_head.specs.Checks.{is_checked}
 
--- the bytes are a telegram with a header of so many bytes, at most so long, that begins with these
--- fields and carries this payload; what follows the payload is not looked at
+-- the bytes are a telegram of at most `longest` bytes, with a header of `size` bytes that begins
+-- with these fields and with this payload; what follows the payload is not looked at
+-- rule: telegram.tail
 pub record IsTelegram (size longest : ℕ) (bytes : List ℕ) (prefix : Prefix) (payload : List ℕ)
     : Type 0 where
   pub long_enough : size ≤ length bytes

@@ -10,6 +10,7 @@ abbrev pub pd_telegram_limit : ℕ
 pd_telegram_limit = 1472
 
 -- the most bytes that a message carries
+-- rule: message.size
 abbrev pub md_payload_limit : ℕ
 md_payload_limit = 65388
 

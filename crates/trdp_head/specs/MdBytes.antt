@@ -13,6 +13,7 @@ abbrev pub md_length_of : ℕ → ℕ
 md_length_of n = 116 + rounded_of n
 
 -- the header before its frame check, with n bytes of payload; the status is in two's complement
+-- rule: telegram.layout
 unfoldable pub md_head_bytes : MdHead → ℕ → List ℕ
 md_head_bytes head n =
     prefix_bytes (md_prefix head) n

@@ -18,11 +18,12 @@ md_prefix head = record {
   topo = head.topo;
 }
 
--- the URI in the 32 bytes at an offset: what stands before the first zero byte
+-- the URI in the 32 bytes at an offset: what comes before the first zero byte
+-- rule: telegram.uri
 abbrev pub uri_in : ℕ → List ℕ → List ℕ
 uri_in offset bytes = before_zero (take 32 (drop offset bytes))
 
--- the fields that stand in a header, with this type; the status is in two's complement
+-- the fields in a header, with this type; the status is in two's complement
 abbrev pub md_head_in : List ℕ → MdKind → MdHead
 md_head_in bytes kind = record {
   counter = (prefix_in bytes).counter;

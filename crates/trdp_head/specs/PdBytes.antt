@@ -11,6 +11,7 @@ abbrev pub pd_length_of : ℕ → ℕ
 pd_length_of n = 40 + rounded_of n
 
 -- the header before its frame check, with n bytes of payload
+-- rule: telegram.layout
 unfoldable pub pd_head_bytes : PdHead → ℕ → List ℕ
 pd_head_bytes head n =
     prefix_bytes (pd_prefix head) n ++ be_bytes 4 0

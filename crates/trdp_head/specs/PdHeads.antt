@@ -16,7 +16,7 @@ pd_prefix head = record {
   topo = head.topo;
 }
 
--- the fields that stand in a header, with this type
+-- the fields in a header, with this type
 abbrev pub head_in : List ℕ → PdKind → PdHead
 head_in bytes kind = record {
   counter = (prefix_in bytes).counter;

@@ -3,7 +3,7 @@ use Rattle.std.specs.Prelude.{ℕ, ◌++◌, ◌<◌, ◌^◌, List}
 use Rattle.trdp_head.specs.declared.prefix.Prefix.{Prefix}
 use Rattle.trdp_head.specs.Fields.{field, be_bytes}
 
--- the fields that stand in a header
+-- the fields in a header
 abbrev pub prefix_in : List ℕ → Prefix
 prefix_in bytes = record {
   counter = field 0 4 bytes;

@@ -2,7 +2,7 @@
 
 use thiserror::Error;
 
-/// The first fault of bytes that are no telegram, in the order in which faults are looked for
+/// The first fault of bytes that are no telegram; the order of the variants is that of the tests
 /// (profile).
 #[derive(Clone, Copy, Debug, PartialEq, Eq, Error)]
 pub enum HeadFault {

@@ -1,9 +1,9 @@
 //! Headers of TRDP telegrams, read and written: IEC 61375-2-3:2015, Annex A. Wherever this crate
 //! names the standard, it means that edition and that annex.
 //!
-//! [`read_pd`] and [`read_md`] give the header ([`PdHead`], [`MdHead`]) and the payload of bytes
-//! that came in, or the first [`HeadFault`]. [`write_pd`] and [`write_md`] write a telegram at the
-//! front of a given room, [`push_pd`] and [`push_md`] at the end of a list that has room.
+//! [`read_pd`] and [`read_md`] return the header ([`PdHead`], [`MdHead`]) and the payload of bytes
+//! that were received, or the first [`HeadFault`]. [`write_pd`] and [`write_md`] write a telegram
+//! at the front of a given room, [`push_pd`] and [`push_md`] at the end of a list that has room.
 //!
 //! ```text
 //! let length = write_pd(&head, b"doors open", &mut room);
@@ -12,11 +12,12 @@
 //! view.payload                         // b"doors open"
 //! ```
 //!
-//! A telegram that is read lends its payload. Nothing here takes memory. Numbers are big-endian,
-//! but for the frame check, whose least significant byte comes first.
+//! A telegram that is read lends its payload. Nothing here takes memory. Numbers are big-endian;
+//! only the frame check has its least significant byte first.
 //!
-//! What no contract can say is that the layout is the standard's: it is written down once in
-//! `specs/`, and tests compare it with telegrams that others made.
+//! Proved: bytes are read exactly where they are a telegram, what is written is read back, and one
+//! damaged byte of a header is found. That the layout is the standard's no proof can show: it is
+//! written down once in `specs/`, and tests compare it with telegrams that others made.
 #![tactic(auto)]
 
 mod fault;

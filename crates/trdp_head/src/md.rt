@@ -7,8 +7,8 @@
 //! | 24 | replyStatus | i32 |
 //! | 28 | sessionId | 16 bytes |
 //! | 44 | replyTimeout | u32, microseconds |
-//! | 48 | sourceUri | 32 bytes, zeros behind the text |
-//! | 80 | destinationUri | 32 bytes, zeros behind the text |
+//! | 48 | sourceUri | 32 bytes, zeros after the text |
+//! | 80 | destinationUri | 32 bytes, zeros after the text |
 //! | 112 | headerFcs | u32, least significant byte first |
 
 mod layout;
@@ -33,13 +33,13 @@ const _: () = prove!(MD_TELEGRAM_MAX == MD_HEAD + MD_PAYLOAD_MAX);
 /// in ASCII.
 #[derive(Clone, Copy, Debug, PartialEq, Eq)]
 pub enum MdKind {
-    /// `Mn`, a message that wants no reply.
+    /// `Mn`, a message that expects no reply.
     Notify,
-    /// `Mr`, a message that wants a reply.
+    /// `Mr`, a message that expects a reply.
     Request,
-    /// `Mp`, a reply that wants no confirmation.
+    /// `Mp`, a reply that expects no confirmation.
     Reply,
-    /// `Mq`, a reply that wants a confirmation.
+    /// `Mq`, a reply that expects a confirmation.
     Query,
     /// `Mc`, the confirmation of a reply.
     Confirm,
@@ -57,23 +57,23 @@ pub struct MdHead {
     pub kind: MdKind,
     /// comId: what data this is.
     pub com_id: u32,
-    /// etbTopoCnt and opTrnTopoCnt: the counts for which the telegram is valid, each 0 for any.
+    /// etbTopoCnt and opTrnTopoCnt: the counters for which the telegram is valid, each 0 for any.
     pub topo: Topo,
     /// replyStatus: of a reply, what its sender says of it; below 0 the standard's faults, 0 or
     /// more the application's.
     pub status: i32,
     /// sessionId: what ties a request, its replies and their confirmations.
     pub session: SessionId,
-    /// replyTimeout: of a request or query, within how many microseconds an answer is wanted, as
-    /// it stands in the header: 0 stays 0.
+    /// replyTimeout: of a request or query, within how many microseconds an answer is expected, as
+    /// the header has it: 0 stays 0.
     pub timeout: u32,
-    /// sourceUri: the text of who sends.
+    /// sourceUri: the text that names the sender.
     pub source_uri: Uri,
-    /// destinationUri: the text of whom it is for.
+    /// destinationUri: the text that names the receiver.
     pub dest_uri: Uri,
 }
 
-/// A message data telegram as it lies in the bytes that were received.
+/// A message data telegram in the bytes that were received.
 #[derive(Clone, Copy, Debug)]
 pub struct MdView<'a> {
     /// The header's fields.

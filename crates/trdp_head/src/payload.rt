@@ -1,5 +1,5 @@
-//! Writing what stands behind the fields of a header: its frame check, the payload, and zeros up
-//! to a multiple of four.
+//! Writing what follows the fields of a header: its frame check, the payload, and zeros up to a
+//! multiple of four.
 
 ghost use Rattle.std.specs.Prelude.{ℕ, ◌≡◌, ◌≤◌, ◌+◌, ◌-◌, ◌++◌, length};
 ghost use Rattle.std.specs.Prelude.{take, drop, vec_len, vec_capacity};
@@ -30,8 +30,8 @@ pub(crate) fn rounded(payload: usize) -> usize
     payload.div_ceil(4) * 4
 }
 
-/// Completes the telegram at the front of the room, whose header of so many bytes stands there up
-/// to its frame check, and answers its length.
+/// Completes the telegram at the front of the room, whose header of `size` bytes is there up to
+/// its frame check, and returns its length.
 pub(crate) fn complete(room: &mut [u8], size: usize, payload: &[u8]) -> usize
     requires payload { length payload.now ≤ md_payload_limit }
     requires check { 4 ≤ size }
@@ -57,7 +57,7 @@ fn append(list: &mut Vec<u8>, bytes: &[u8])
     list.extend_from_slice(bytes).unwrap();
 }
 
-/// Adds a header, the payload and its zeros at the end of the list, within its room, and answers
+/// Adds a header, the payload and its zeros at the end of the list, within its room, and returns
 /// their length.
 pub(crate) fn append_telegram(list: &mut Vec<u8>, header: &[u8], payload: &[u8]) -> usize
     requires payload { length payload.now ≤ md_payload_limit }

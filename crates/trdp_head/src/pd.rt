@@ -51,7 +51,7 @@ pub struct PdHead {
     pub kind: PdKind,
     /// comId: what data this is.
     pub com_id: u32,
-    /// etbTopoCnt and opTrnTopoCnt: the counts for which the telegram is valid, each 0 for any.
+    /// etbTopoCnt and opTrnTopoCnt: the counters for which the telegram is valid, each 0 for any.
     pub topo: Topo,
     /// replyComId: of a pull request, the comId that it asks for, 0 for its own.
     pub reply_com_id: u32,
@@ -59,7 +59,7 @@ pub struct PdHead {
     pub reply_ip: Ip,
 }
 
-/// A process data telegram as it lies in the bytes that were received.
+/// A process data telegram in the bytes that were received.
 #[derive(Clone, Copy, Debug)]
 pub struct PdView<'a> {
     /// The header's fields.

@@ -21,25 +21,25 @@ use crate::fields::{little_u32_at, put_u16, put_u32, u16_at, u32_at};
 use trdp_base::Topo;
 use trdp_fcs::frame_check;
 
-/// Where sequenceCounter stands, 4 bytes.
+/// The offset of sequenceCounter, 4 bytes.
 const COUNTER: usize = 0;
 
-/// Where protocolVersion stands, 2 bytes, of which the first is the main version.
+/// The offset of protocolVersion, 2 bytes, of which the first is the main version.
 const VERSION: usize = 4;
 
-/// Where msgType stands, 2 bytes.
+/// The offset of msgType, 2 bytes.
 const KIND: usize = 6;
 
-/// Where comId stands, 4 bytes.
+/// The offset of comId, 4 bytes.
 const COM_ID: usize = 8;
 
-/// Where etbTopoCnt stands, 4 bytes.
+/// The offset of etbTopoCnt, 4 bytes.
 const ETB_TOPO: usize = 12;
 
-/// Where opTrnTopoCnt stands, 4 bytes.
+/// The offset of opTrnTopoCnt, 4 bytes.
 const OP_TRN_TOPO: usize = 16;
 
-/// Where datasetLength stands, 4 bytes.
+/// The offset of datasetLength, 4 bytes.
 pub(crate) const DATASET_LENGTH: usize = 20;
 
 /// The length in bytes of the frame check, with which a header ends.
@@ -64,8 +64,8 @@ pub(crate) struct Prefix {
     pub topo: Topo,
 }
 
-/// The first fields of the telegram in the bytes, or the first fault but for its type and its
-/// payload, where headers have so many bytes and telegrams at most so many.
+/// The first fields of the telegram in the bytes, or its first fault, other than those of its type
+/// and payload. Headers have `size` bytes, telegrams at most `longest`.
 #[tactic(auto, unfolding(crate::specs::Faults::prefix_fault_of, crate::specs::Checks::is_checked))]
 pub(crate) fn read_prefix(bytes: &[u8], size: usize, longest: usize) -> Result<Prefix, HeadFault>
     requires { 28 ≤ size }

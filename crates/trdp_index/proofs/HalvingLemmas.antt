@@ -1,6 +1,6 @@
 -- A search that halves its range.
 -- For `lower_bound`.
--- By arithmetic: so many probes halve the range so often.
+-- By arithmetic: n probes halve the range n times.
 use Rattle.std.proofs.Common.{◌≤◌, ◌<◌, ◌+◌, ◌/◌, ◌^◌, ℕ, zero, suc, arith}
 use Rattle.std.proofs.Math.Nat.{pow-succ'}
 

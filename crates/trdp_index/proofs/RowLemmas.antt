@@ -121,7 +121,7 @@ module _ {Row : Type 0} (rank_of : Row → Rank) where
 
   -- What is picked out of the rows.
 
-  -- a row that the first doesn't come before stands first
+  -- a row that the first doesn't come before becomes the first
   first_of : (a : Rank) (row : Row) (rows : List Row) → is_before a (rank_of row) ≡ false
       → AllAfter rank_of a rows → with_row rank_of row rows ≡ row ∷ rows
   first_of a row [] later after = refl
@@ -157,7 +157,7 @@ module _ {Row : Type 0} (rank_of : Row → Rank) where
       either true rest = ap (λ (l : List Row). cond (p other) (other ∷ l) l) rest
       either false rest = rw fails refl
 
-  -- what a test picks of the rows with one more: the row stands among it if it passes
+  -- what a test picks of the rows with one more: the row is among it if it passes
   pub filter-with_row : (p : Row → Bool) (row : Row) (rows : List Row)
       → IsRising rank_of rows → filter p (with_row rank_of row rows)
       ≡ (if p row then with_row rank_of row (filter p rows) else filter p rows)

@@ -1,4 +1,4 @@
--- The rows of a comId stand together.
+-- The rows of a comId are next to one another.
 -- For `ComIndex::run`.
 -- By: what a run leaves out at either end isn't of the comId, and all that it has is.
 use Rattle.std.proofs.Common.{◌≡◌, ℕ, zero, suc, List, [], ◌∷◌, ◌++◌, take, drop, Option}

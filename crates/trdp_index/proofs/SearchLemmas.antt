@@ -1,6 +1,6 @@
--- What the row of an index in the list tells of all rows.
+-- What the row at an index in the list says about all rows.
 -- For `index_of`, `is_below`, `place_for`, `remove` of both indexes, and the store above.
--- By: rows rise, so one that isn't below a rank has none behind it that is.
+-- By: rows rise, so one that isn't below a rank has none after it that is.
 use Rattle.std.proofs.Common.{◌≡◌, ℕ, zero, suc, ◌+◌, ◌<◌, List, [], ◌∷◌, length, take, drop}
 use Rattle.std.proofs.Common.{Some, Bool, true, false, refl, ◌∙◌, sym, ap, subst, arith}
 use Rattle.std.specs.Prelude.{slice_get, option_map, insert, remove, is_some}
@@ -27,7 +27,7 @@ module _ {Row : Type 0} (rank_of : Row → Rank) where
       subst (λ (r : Rank). is_before a r ≡ true) (same_Some (rank_of row) q at) after.0
   after_at a q (suc n) (row ∷ rows) after at = after_at a q n rows after.1 at
 
-  -- a row that comes before the rank, and each that stands before it
+  -- a row that comes before the rank, and each row before it
   pub all_before : (rank q : Rank) (n : ℕ) (rows : List Row) → IsRising rank_of rows
       → IsRankAt q n rows → is_before q rank ≡ true → AllBefore rank_of rank (take (suc n) rows)
   all_before rank q n [] rising at sooner = absurd (none-some q at)
@@ -46,7 +46,7 @@ module _ {Row : Type 0} (rank_of : Row → Rank) where
   none_after a rank (row ∷ rows) later after =
       (not_sooner a (rank_of row) rank after.0 later, none_after a rank rows later after.1)
 
-  -- a row that doesn't come before the rank, and each that stands after it
+  -- a row that doesn't come before the rank, and each row after it
   pub none_before : (rank q : Rank) (n : ℕ) (rows : List Row) → IsRising rank_of rows
       → IsRankAt q n rows → is_before q rank ≡ false → NoneBefore rank_of rank (drop n rows)
   none_before rank q n [] rising at later = absurd (none-some q at)
@@ -131,7 +131,7 @@ module _ {Row : Type 0} (rank_of : Row → Rank) where
   is_some_get zero (row ∷ rows) lt = refl
   is_some_get (suc n) (row ∷ rows) lt = is_some_get n rows (omega arith)
 
-  -- a row that stands at an index is there
+  -- a row at an index is in the list
   pub has_found : (rank : Rank) (rows : List Row) (n : ℕ)
       → IsIndexOf rank_of rank rows n → has_row rank_of rank rows ≡ true
   has_found rank rows n index = ap is_some (sym index.found) ∙ is_some_get n rows index.within

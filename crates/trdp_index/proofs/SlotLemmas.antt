@@ -17,7 +17,7 @@ unfolding is_same
 same_slot a b same = grind (arith, nat_tests)
 
 module _ {Row : Type 0} (rank_of : Row → Rank) (slot : ℕ) where
-  -- the row of a rank is that of before, or the rank is of the slot
+  -- the row of a rank is the same as before, or the rank is of the slot
   pub row_of-without_slot : (rank : Rank) (rows : List Row)
       → row_of rank_of rank (without_slot rank_of slot rows)
       ≡ (if rank.slot == slot then None else row_of rank_of rank rows)

@@ -9,12 +9,12 @@ abbrev pub com_number : Option ℕ → ℕ
 com_number None = 0
 com_number (Some com_id) = suc com_id
 
--- where the row of a comId, a slot and a handle stands
+-- the rank of the row of a comId, a slot and a handle
 abbrev pub com_rank : Option ℕ → ℕ → ℕ → Rank
 com_rank com_id slot handle =
     record { first = com_number com_id; slot = slot; last = handle }
 
--- where a row stands
+-- the rank of a row
 abbrev pub com_row_rank : ComRow → Rank
 com_row_rank row = com_rank row.com_id row.slot row.handle
 

@@ -1,4 +1,4 @@
--- What an index keeps beside the set of its rows.
+-- What is kept true of an index and its list.
 use Rattle.std.specs.Prelude.{ℕ, ◌≤◌, List, length}
 use Rattle.trdp_index.specs.declared.rank.Rank.{Rank}
 use Rattle.trdp_index.specs.Rows.{IsRising}

@@ -35,7 +35,7 @@ row_of rank_of rank rows = find (λ row. is_same (rank_of row) rank) rows
 abbrev pub has_row : {Row : Type 0} → (Row → Rank) → Rank → List Row → Bool
 has_row rank_of rank rows = is_some (row_of rank_of rank rows)
 
--- the rows with one more, which stands before the first that doesn't come before it
+-- the rows with one more, put before the first that doesn't come before it
 abbrev pub with_row : {Row : Type 0} → (Row → Rank) → Row → List Row → List Row
 with_row rank_of row [] = row ∷ []
 with_row rank_of row (other ∷ others) =

@@ -12,12 +12,12 @@ abbrev pub role_number : Role → ℕ
 role_number Caller = 0
 role_number Replier = 1
 
--- where the row of a session, a slot and a role stands
+-- the rank of the row of a session, a slot and a role
 abbrev pub session_rank : SessionId → ℕ → Role → Rank
 session_rank session slot role =
     record { first = session.0; slot = slot; last = role_number role }
 
--- where a row stands
+-- the rank of a row
 abbrev pub session_row_rank : SessionRow → Rank
 session_row_rank row = session_rank row.session row.slot row.role
 

@@ -14,11 +14,12 @@ use crate::search::{index_of, lower_bound, place_for};
 use std::alloc::{AllocError, Global};
 use std::marker::Model;
 
-/// Which objects telegrams of a comId may be for: at most one row for each comId, or any, with a
-/// slot and a handle.
+/// Which objects telegrams of a comId may be for: at most one row for each comId (or "any comId"),
+/// slot and handle.
 #[derive(Drop)]
 pub struct ComIndex {
-    /// The rows, the comIds rising behind any, those of one comId by slot and handle.
+    /// The rows: those of any comId first, then by rising comId; those of one comId by slot and
+    /// handle.
     rows: Vec<ComRow>,
     /// How many rows it may have; the list has room for them.
     room: usize,
@@ -38,7 +39,7 @@ impl Model for ComIndex {
 }
 
 impl ComIndex {
-    /// An index without rows, with room for so many.
+    /// An index without rows, with room for `room` of them.
     ///
     /// # Errors
     /// [`AllocError`] where there is no memory for them.
@@ -49,7 +50,8 @@ impl ComIndex {
         Ok(ComIndex { rows, room })
     }
 
-    /// Makes the room at least so large; all rows stay. It takes no memory where the room is.
+    /// Makes the room at least this large; all rows stay. It takes no memory where the room is
+    /// already.
     ///
     /// # Errors
     /// [`AllocError`] where there is no memory; nothing has changed.
@@ -105,7 +107,7 @@ impl ComIndex {
         put_in(&mut self.rows, place, row);
     }
 
-    /// Takes away the row of that comId, or any, with that slot and handle, and no other. Answers
+    /// Takes away the row of that comId, or any, with that slot and handle, and no other. Returns
     /// whether there was one.
     pub fn remove(&mut self, com_id: Option<u32>, slot: u16, handle: u32) -> bool
         ensures there { result ≡ has_com_row com_id slot handle self.old.rows }

@@ -39,7 +39,7 @@ fn com_number(com_id: Option<u32>) -> u128
     }
 }
 
-/// Where the row of a comId, a slot and a handle stands.
+/// The rank of the row of a comId, a slot and a handle.
 pub fn com_rank(com_id: Option<u32>, slot: u16, handle: u32) -> Rank
     ensures { result ≡ com_rank com_id slot handle }
 {

@@ -1,5 +1,5 @@
-//! The two indexes of a node: which objects telegrams of a comId are for ([`ComIndex`]), and which
-//! objects are open for a session ([`SessionIndex`]).
+//! The two indexes of a node: which objects telegrams of a comId may be for ([`ComIndex`]), and
+//! which objects are open for a session ([`SessionIndex`]). `trdp_store` uses both.
 //!
 //! ```text
 //! let mut index = ComIndex::with_room(alloc, 256)?;
@@ -8,12 +8,10 @@
 //! index.remove(Some(100), 0, 1);                        // true: there was one
 //! ```
 //!
-//! Each index is a set of rows, kept in one order in a list with room that is taken when the index
-//! is made and when it grows; nothing else here takes memory. What is found by a comId comes by
-//! slot and handle. A look-up halves the list: it compares no more often than the number of rows
-//! has binary digits, at each of the two ends of a run.
-//!
-//! What no contract can say is that memory is there for an index that is made or grows.
+//! Each index is a set of rows, sorted, in a list whose memory is taken when the index is made and
+//! when it grows; nothing else here takes memory. A run by comId is in the order of slot and
+//! handle. A look-up halves the list: it is proved to compare no more often than the number of
+//! rows has binary digits, at each of the two ends of a run.
 #![tactic(auto)]
 
 mod com_index;

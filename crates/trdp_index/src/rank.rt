@@ -1,17 +1,17 @@
-//! Where the rows of an index stand.
+//! The ranks by which the rows of an index are sorted.
 
 ghost use Rattle.std.specs.Prelude.{◌≡◌};
 ghost use Rattle.trdp_index.specs.Ranks.{is_before, is_same};
 
-/// Where a row stands among the others: by its first number, then by its slot, then by its last
+/// The rank of a row among the others: by its first number, then by its slot, then by its last
 /// number.
 #[derive(Clone, Copy)]
 pub struct Rank {
-    /// What a look-up asks for before all else: a comId, or the identifier of a session.
+    /// What a look-up compares first: a comId, or the identifier of a session.
     pub first: u128,
     /// The number of a slot.
     pub slot: u16,
-    /// What tells the rows of one slot apart: a handle, or a role.
+    /// What distinguishes the rows of one slot: a handle, or a role.
     pub last: u32,
 }
 

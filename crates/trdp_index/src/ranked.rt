@@ -7,10 +7,10 @@ use crate::rank::Rank;
 
 /// A row of an index.
 pub trait Ranked {
-    /// Where the row stands.
+    /// The rank of the row.
     ghost rank_of: { Self → Rank };
 
-    /// Where the row stands.
+    /// The rank of the row.
     fn rank(&self) -> Rank
         ensures { result ≡ rank_of self.now };
 }

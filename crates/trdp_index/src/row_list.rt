@@ -1,11 +1,11 @@
-//! A row that comes into a list of rows, and the rows of a slot that go.
+//! A row is put in a list of rows, and the rows of a slot are taken out.
 
 ghost use Rattle.std.specs.Prelude.{◌≡◌, ◌<◌, ◌≤◌, vec_len, vec_capacity, insert};
 ghost use Rattle.trdp_index.specs.Rows.{without_slot};
 
 use crate::ranked::Ranked;
 
-/// Puts a row in at a place; those behind it move up by one. The list has room for it.
+/// Puts a row in at an index; those from there on move up by one. The list has room for it.
 ///
 /// They move all at once: LLVM makes one `memmove` of this form, and of `Vec::insert` on rows like
 /// these a move for each row.

@@ -8,7 +8,7 @@ ghost use Rattle.trdp_index.specs.Searches.{IsIndexOf, IsAbsent};
 use crate::rank::Rank;
 use crate::ranked::Ranked;
 
-/// Where the row of an index in the list stands.
+/// The rank of the row at an index in the list.
 fn rank_at<R: Ranked>(rows: &[R], index: usize) -> Rank
     requires { index < length rows.now }
     ensures { option_map R.rank_of (slice_get rows.now index) ≡ Some result }
@@ -16,7 +16,7 @@ fn rank_at<R: Ranked>(rows: &[R], index: usize) -> Rank
     rows[index].rank()
 }
 
-/// Whether the row of an index in the list stands before a rank. Each comparison is counted here.
+/// Whether the row at an index in the list comes before a rank. Each comparison is counted here.
 fn is_below<R: Ranked>(rows: &[R], index: usize, rank: Rank, comparisons: &mut u64) -> bool
     requires rising { IsRising R.rank_of rows.now }
     requires index { index < length rows.now }
@@ -29,7 +29,7 @@ fn is_below<R: Ranked>(rows: &[R], index: usize, rank: Rank, comparisons: &mut u
     rank_at(rows, index).is_before(rank)
 }
 
-/// How many rows stand before a rank. It adds its comparisons to the number.
+/// How many rows come before a rank. It adds its comparisons to the number.
 pub fn lower_bound<R: Ranked>(rows: &[R], rank: Rank, comparisons: &mut u64) -> usize
     requires rising { IsRising R.rank_of rows.now }
     requires count { comparisons.old ≤ 2 ^ 63 }
@@ -54,7 +54,7 @@ pub fn lower_bound<R: Ranked>(rows: &[R], rank: Rank, comparisons: &mut u64) -> 
     low
 }
 
-/// Where a new row of a rank goes.
+/// The index at which a new row of a rank is put in.
 pub fn place_for<R: Ranked>(rows: &[R], rank: Rank) -> usize
     requires { IsRising R.rank_of rows.now }
     ensures within { result ≤ length rows.now }

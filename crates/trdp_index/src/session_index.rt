@@ -40,7 +40,7 @@ impl Model for SessionIndex {
 }
 
 impl SessionIndex {
-    /// An index without rows, with room for so many.
+    /// An index without rows, with room for `room` of them.
     ///
     /// # Errors
     /// [`AllocError`] where there is no memory for them.
@@ -51,7 +51,8 @@ impl SessionIndex {
         Ok(SessionIndex { rows, room })
     }
 
-    /// Makes the room at least so large; all rows stay. It takes no memory where the room is.
+    /// Makes the room at least this large; all rows stay. It takes no memory where the room is
+    /// already.
     ///
     /// # Errors
     /// [`AllocError`] where there is no memory; nothing has changed.
@@ -118,8 +119,8 @@ impl SessionIndex {
         put_in(&mut self.rows, place, row);
     }
 
-    /// Takes away the key of a slot's object for a session in a role, and no other. Answers whether
-    /// there was one.
+    /// Takes away the key of a slot's object for a session in a role, and no other. Returns
+    /// whether there was one.
     pub fn remove(&mut self, session: SessionId, slot: u16, role: Role) -> bool
         ensures there { result ≡ is_some (session_key session slot role self.old.rows) }
         ensures rows { self.new

@@ -12,7 +12,7 @@ use trdp_base::SessionId;
 pub enum Role {
     /// It sent the request.
     Caller,
-    /// It was sent the request.
+    /// It received the request.
     Replier,
 }
 
@@ -47,7 +47,7 @@ fn role_number(role: Role) -> u32
     }
 }
 
-/// Where the row of a session, a slot and a role stands.
+/// The rank of the row of a session, a slot and a role.
 pub fn session_rank(session: SessionId, slot: u16, role: Role) -> Rank
     ensures { result ≡ session_rank session slot role }
 {

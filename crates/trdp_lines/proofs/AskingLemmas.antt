@@ -1,6 +1,6 @@
 -- What was asked over several calls, where nothing was found.
 -- For both paths.
--- By: what was asked is among the calls of both parts; who has a seat last had it all the time.
+-- By: what was asked is among the calls of both parts; one seated last was so all the time.
 use Rattle.std.proofs.Common.{◌≡◌, ℕ, suc, ◌+◌, ◌<◌, ◌≤◌, ◌==◌, ◌≢◌, ◌||◌, ◌++◌, ◌⊎◌, List, []}
 use Rattle.std.proofs.Common.{◌∷◌, Bool, true, false, Option, Some, None, length, refl, ap, sym}
 use Rattle.std.proofs.Common.{◌∙◌, subst, map, append_assoc, inl, inr, arith}
@@ -19,7 +19,7 @@ use Rattle.trdp_lines.proofs.HandingLemmas.{tells_nothing}
 use Rattle.trdp_lines.proofs.PlaceLemmas.{or_right}
 use Rattle.trdp_lines.proofs.SeatLemmas.{number_of_same}
 
--- calls that are told one after the other
+-- calls that are reported one after the other
 pub told_next : (one two three : Option (List ConnectionCall)) (first second : List ConnectionCall)
     → TellsMore one two first → TellsMore two three second
     → TellsMore one three (first ++ second)
@@ -117,7 +117,7 @@ asks_free place calls seats free = record {
   unfailed = refl;
 }
 
--- who has a seat in between had it before
+-- one that has a seat in between had it before
 stayed : (here_is : Bool) (place number : ℕ) (seats mid : List ConversationState)
     → (seat_at seats place).number ≡ Some number → (seat_at mid place).number ≡ Some number
     → ((k : ℕ) → k ≢ place → seat_at mid k ≡ seat_at seats k) → (k n : ℕ)
@@ -215,13 +215,13 @@ asks_round first one two three seats mid seats_then before behind =
       | inr late ↦ inl (late, low)
     ]) before behind
 
--- the seat of this connection stands at a place
+-- the seat of this connection is at a place
 record IsAt (n : ℕ) (seats : List ConversationState) : Type 0 where
   pub place : ℕ
   pub within : place < length seats
   pub mine : is_of n (seat_at seats place) ≡ true
 
--- it is the first seat, or stands behind it
+-- it is the first seat, or follows it
 at_cons : (here : Bool) (n : ℕ) (c : ConversationState) (seats : List ConversationState)
     → is_of n c ≡ here → (has_seat n seats ≡ true → IsAt n seats)
     → (is_of n c || has_seat n seats) ≡ true → IsAt n (c ∷ seats)
@@ -230,7 +230,7 @@ at_cons false n c seats mine behind some =
     let rest = behind (ap (λ (b : Bool). b || has_seat n seats) (sym mine) ∙ some) in
     record { place = suc rest.place; within = omega (arith, rest.within); mine = rest.mine }
 
--- who has a seat has it at a place
+-- one that has a seat has it at a place
 is_at : (n : ℕ) (seats : List ConversationState) → has_seat n seats ≡ true → IsAt n seats
 is_at n [] some = never_both false some refl
 is_at n (c ∷ seats) some = at_cons (is_of n c) n c seats refl (is_at n seats) some

@@ -93,7 +93,7 @@ nothing_in_turn calls bound unread (n ∷ ns) all =
     ∙ ap (λ (b : Bool). if b then [] else behind) (unread_past calls n none.0)
     ∙ nothing_in_turn calls bound unread ns (All-tail (λ n. bound ≤ n) n ns all)
 
--- behind connections that don't live the others say what they say
+-- after connections that don't live the others say what they say
 pub past_in_turn : (calls : List ConnectionCall) (front ns : List ℕ)
     → All (λ n. lives calls n ≡ false) front
     → said_in_turn calls (front ++ ns) ≡ said_in_turn calls front ++ said_in_turn calls ns
@@ -108,7 +108,7 @@ past_in_turn calls (n ∷ front) ns past =
     ∙ ap (λ (b : Bool). (says ++ (if b then [] else said_in_turn calls front))
     ++ said_in_turn calls ns) (sym none)
 
--- connections that say nothing add nothing behind others
+-- connections that say nothing add nothing after others
 pub silent_in_turn : (calls : List ConnectionCall) (ns silent : List ℕ)
     → said_in_turn calls silent ≡ []
     → said_in_turn calls (ns ++ silent) ≡ said_in_turn calls ns
@@ -245,7 +245,7 @@ read_bytes calls n reading =
     flat_map-append (bytes_read n) calls (Reads n reading ∷ [])
     ∙ ap (λ (l : List ℕ). bytes_from n calls ++ l) here
 
--- and by what it answered it has ended or not
+-- and by its answer the connection has ended or not
 pub read_end : (calls : List ConnectionCall) (n : ℕ) (reading : Reading)
     → has_ended n (calls ++ Reads n reading ∷ [])
     ≡ (has_ended n calls || is_end reading.arrived)

@@ -1,6 +1,6 @@
 -- Which connections came over several calls, and which of them got a seat.
 -- For the path of the operator's port.
--- By: cases on which calls are told; the connections that came by each of them.
+-- By: cases on which calls are reported; the connections that came by each of them.
 use Rattle.std.proofs.Common.{◌≡◌, ℕ, ◌+◌, ◌<◌, ◌≤◌, ◌||◌, ◌++◌, List, [], ◌∷◌, false}
 use Rattle.std.proofs.Common.{Option, Some, None, IfSome, length, set, get_or, refl, ap, sym, subst}
 use Rattle.std.proofs.Common.{◌∙◌, inl, inr}
@@ -18,7 +18,7 @@ use Rattle.trdp_lines.proofs.GoingOnLemmas.{never_both, none_among, seat_among}
 use Rattle.trdp_lines.proofs.SeatLemmas.{changes_at}
 use Rattle.trdp_lines.proofs.SeatedLemmas.{alone}
 
--- the connections that came by calls that are told
+-- the connections that came by calls that are reported
 pub have_come : (calls calls_then : Option (List ConnectionCall)) (more : List ConnectionCall)
     → TellsMore calls calls_then more → HaveCome calls calls_then (connections_in more)
 have_come None None more told = tt
@@ -45,7 +45,7 @@ have_come_next (Some one) (Some two) None numbers first second = tt
 have_come_next (Some one) (Some two) (Some three) numbers first second =
     second ∙ append-nil (connections_in two) ∙ first
 
--- those that came behind calls by which none did
+-- those that came after calls by which none did
 pub have_come_then : (one two three : Option (List ConnectionCall)) (numbers : List ℕ)
     → HaveCome one two [] → HaveCome two three numbers → HaveCome one three numbers
 have_come_then None None None numbers first second = tt
@@ -57,7 +57,7 @@ have_come_then (Some one) (Some two) None numbers first second = tt
 have_come_then (Some one) (Some two) (Some three) numbers first second =
     second ∙ ap (λ (came : List ℕ). came ++ numbers) (first ∙ append-nil (connections_in one))
 
--- who came, and before and behind that none
+-- the connections that came, and before and after that none
 pub comes_between : (one two three four : Option (List ConnectionCall))
     (came came_two came_three came_four : ℕ) → HaveCome one two [] → came_two ≡ came
     → ComesNext two three came_two came_three → HaveCome three four [] → came_four ≡ came_three
@@ -93,7 +93,7 @@ pub none_comes_next : (calls : Option (List ConnectionCall)) (came : ℕ)
 none_comes_next None came = inl (tt, refl)
 none_comes_next (Some calls) came = inl (sym (append-nil (connections_in calls)), refl)
 
--- who came, and behind that all goes on
+-- the connections that came, and after that all goes on
 pub comes_then : (one two three : Option (List ConnectionCall)) (came came_then last : ℕ)
     (seats seats_then : List ConversationState) → ComesNext one two came came_then
     → GoesOnIfTold two three seats seats_then → last ≡ came_then → ComesNext one three came last
@@ -108,7 +108,7 @@ comes_then one two three came came_then last seats seats_then comes goes same =
       )
     ]
 
--- one that had a seat, and has none behind calls by which all goes on, is over
+-- one that had a seat, and has none after calls by which all goes on, is over
 pub over_then : (calls calls_then : Option (List ConnectionCall))
     (seats mid seats_then : List ConversationState) → KeepSeats seats mid
     → GoesOnIfTold calls calls_then mid seats_then → AreOver calls_then seats seats_then

@@ -1,6 +1,6 @@
 -- What holds of a path at any time, after each kind of call, and where the next connection came.
 -- For `ControlPath`.
--- By: whoever speaks or waits came; the next connection has the next number.
+-- By: each that speaks or waits came; the next connection has the next number.
 use Rattle.std.proofs.Common.{◌≡◌, ℕ, ◌+◌, ◌≤◌, ◌==◌, ◌||◌, ◌++◌, List, [], ◌∷◌}
 use Rattle.std.proofs.Common.{Bool, true, false, Option, Some, None, refl, ap, sym, subst, ◌∙◌}
 use Rattle.std.proofs.Common.{IfSome, inl, inr, arith}
@@ -100,7 +100,7 @@ low_of false number waiting came n talks low low_waiting some =
     low_at waiting n came (number_of_same waiting n
     (ap (λ (b : Bool). b || speaks waiting n) (sym talks) ∙ some)) low_waiting
 
--- whoever has a place came
+-- each that has a place came
 pub placed_low : (calls : Option (List ConnectionCall)) (c : ConversationState)
     (waiting : Option ℕ) (came n : ℕ) → IsControlPath calls c waiting came
     → has_place n (at c.number waiting came) ≡ true → n ≤ came
@@ -148,7 +148,7 @@ proceeding_behind calls calls_then number came told = record {
       inl (or_right (speaks number n) (came + 1 == n) (eq-eqb (came + 1) n same));
 }
 
--- the same of calls that may not be told
+-- the same of calls that may not be reported
 pub proceeds_first : (calls calls_then : Option (List ConnectionCall))
     (number waiting : Option ℕ) (begun : ConversationState) (came : ℕ) → is_some number ≡ false
     → is_some waiting ≡ false → begun ≡ conversation_of (Some (came + 1))
@@ -166,7 +166,7 @@ proceeds_first (Some calls) (Some calls_then) None (Some next) begun came none u
 proceeds_first (Some calls) (Some calls_then) (Some n) waiting begun came none unwaited begins
     told = cc
 
--- the same of calls that may not be told
+-- the same of calls that may not be reported
 pub proceeds_behind : (calls calls_then : Option (List ConnectionCall))
     (number waiting : Option ℕ) (came : ℕ) → is_some waiting ≡ false
     → TellsMore calls calls_then (Accepts (came + 1) Came ∷ [])

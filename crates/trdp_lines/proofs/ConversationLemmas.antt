@@ -1,4 +1,4 @@
--- What a connection says behind whole lines, and what is written to it.
+-- What a connection says after whole lines, and what is written to it.
 -- For `Conversation` and `ControlPath`.
 -- By: whole lines stay when more bytes come, and have no rest.
 use Rattle.std.proofs.Common.{not, ◌&&◌, ◌≡◌, ◌==◌, ◌||◌, ◌++◌, ℕ, List, [], ◌∷◌, length, nat_le}
@@ -44,7 +44,7 @@ rest_step true byte front bytes is later whole =
     rw there (later (rw is at whole))
 rest_step false byte front bytes is later whole = let none = rw is at whole in cc
 
--- the rest of bytes behind whole lines is the rest of those bytes
+-- the rest of bytes after whole lines is the rest of those bytes
 pub rest_behind : (front bytes : List ℕ) → rest_of front ≡ []
     → rest_of (front ++ bytes) ≡ rest_of bytes
 rest_behind [] bytes whole = refl
@@ -66,13 +66,13 @@ whole_rest (byte ∷ line) =
     let there : has_line (byte ∷ whole_line line) ≡ true = line_in_whole (byte ∷ line) in
     rw there (whole_rest line)
 
--- bytes are their first line with its end, and those behind it
+-- bytes are their first line with its end, and those after it
 pub whole_split : (bytes : List ℕ) → has_line bytes ≡ true
     → bytes ≡ whole_line (first_line bytes) ++ behind_line bytes
 whole_split bytes has = first_split bytes has
     ∙ sym (append_assoc (first_line bytes) (line_end ∷ []) (behind_line bytes))
 
--- bytes with a line have the rest of those behind it
+-- bytes with a line have the rest of those after it
 pub rest_behind_line : (bytes : List ℕ) → has_line bytes ≡ true
     → rest_of bytes ≡ rest_of (behind_line bytes)
 rest_behind_line bytes has =
@@ -84,7 +84,7 @@ rest_behind_line bytes has =
 abbrev saying : ℕ → List ℕ → Said
 saying n line = (n, line)
 
--- what a connection says are its whole lines, and what it says in the bytes behind them
+-- what a connection says are its whole lines, and what it says in the bytes after them
 pub says_split : (n : ℕ) (front bytes : List ℕ) (ended : Bool) → rest_of front ≡ []
     → says_of n (front ++ bytes) ended ≡ said_by n (lines_in front)
     ++ (said_by n (lines_in bytes)
@@ -137,7 +137,7 @@ end_left n c none done =
     ∙ ap (λ (b : Bool). end_if n true (c.spoke || b)) none
     ∙ ap (λ (b : Bool). end_if n true b) (or_false c.spoke)
 
--- a line is left: it comes next, and behind it what is left without it
+-- a line is left: it comes next, and after it what is left without it
 pub line_left : (n : ℕ) (c : ConversationState) → has_line c.bytes ≡ true
     → left_by (Some n) c ≡ (n, first_line c.bytes)
     ∷ left_by (Some n) (record c { bytes = behind_line c.bytes; spoke = true })
@@ -176,7 +176,7 @@ pub silent_past : (c : ConversationState) → c.spoke ≡ false → has_line c.b
 silent_past c silent none = and_left (c.spoke || has_line c.bytes) (not (is_done c))
     (or_from c.spoke (has_line c.bytes) silent none)
 
--- a step by which nothing is taken comes before what is written
+-- a step by which the other side takes nothing comes before what is written
 pub more_written : (n : ℕ) (step : OutgoingStep) (old : ConversationState) (out : OutgoingState)
     (new : ConversationState) (calls calls_then : Option (List ConnectionCall))
     → out ≡ after_step old.outgoing step → taken_in old.outgoing step ≡ []

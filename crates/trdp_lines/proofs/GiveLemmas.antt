@@ -33,14 +33,14 @@ no_seat seats n nowhere =
     seats free_seat (λ k within. false_from_ne_true (is_of n (seat_at seats k))
     (λ yes. nowhere k within (number_of_same (seat_at seats k).number n yes))))
 
--- whoever isn't there is told nothing
+-- a connection that isn't there gets nothing
 pub says_nowhere : (calls : Option (List ConnectionCall)) (seats : List ConversationState)
     (n : ℕ) (text : List ℕ) → HasNoPlace (Some n) seats
     → SaysToSeat calls calls (has_seat n seats) n text seats seats (Ok tt)
 says_nowhere calls seats n text nowhere =
     rw (no_seat seats n nowhere) (tells_nothing calls, refl, refl)
 
--- the connection at a place is told the text
+-- the connection at a place gets the text
 pub says_there : (calls calls_then : Option (List ConnectionCall))
     (seats : List ConversationState) (place n : ℕ) (text : List ℕ) (c c_then : ConversationState)
     (result : Result (Unit {0}) LostText) → place < length seats → c ≡ get_or seats place c

@@ -1,4 +1,4 @@
--- Who has a seat, and who has one no longer, over several calls.
+-- The connections that have a seat, and those that have one no longer, over several calls.
 -- For the path of the operator's port.
 -- By: whether a connection has a seat between them; one without a seat isn't read from.
 use Rattle.std.proofs.Common.{◌≡◌, ℕ, ◌||◌, ◌++◌, ◌≢◌, List, ◌∷◌, Bool, true, false, Option}
@@ -37,7 +37,7 @@ pub left_true : (b : Bool) → (b || false) ≡ true → b ≡ true
 left_true true same = refl
 left_true false same = same
 
--- where nothing was asked all goes on, by calls that are told
+-- where nothing was asked all goes on, by calls that are reported
 going_none : (calls : List ConnectionCall) (seats : List ConversationState)
     → GoesOn calls calls seats seats
 going_none calls seats = record {
@@ -66,7 +66,7 @@ over_next true n one two three a b c mid first second some none = second.over n 
 over_next false n one two three a b c mid first second some none =
     over_kept two three n (second.others n mid).unheard ∙ first.over n some mid
 
--- what goes on behind what goes on, by calls that are told
+-- what goes on after what goes on, by calls that are reported
 going_next : (one two three : List ConnectionCall) (a b c : List ConversationState)
     → GoesOn one two a b → GoesOn two three b c → GoesOn one three a c
 going_next one two three a b c first second = record {
@@ -88,7 +88,7 @@ going_next one two three a b c first second = record {
       over_next (has_seat n b) n one two three a b c refl first second some none;
 }
 
--- what goes on behind what goes on
+-- what goes on after what goes on
 pub goes_on_next : (one two three : Option (List ConnectionCall))
     (a b c : List ConversationState) → GoesOnIfTold one two a b → GoesOnIfTold two three b c
     → GoesOnIfTold one three a c
@@ -101,7 +101,7 @@ goes_on_next (Some one) (Some two) None a b c first second = tt
 goes_on_next (Some one) (Some two) (Some three) a b c first second =
     going_next one two three a b c first second
 
--- who has a seat, with the one that changes
+-- those that have a seat, with the one that changes
 pub seat_among : (n : ℕ) (seats front back : List ConversationState) (c : ConversationState)
     → seats ≡ front ++ c ∷ back
     → has_seat n seats ≡ (has_seat n front || (is_of n c || has_seat n back))
@@ -128,7 +128,7 @@ none_among n seats front back c is none =
     let rest = or_parts (is_of n c) (has_seat n back) parts.1 in
     (parts.0, rest.0, rest.1)
 
--- a turn of the connection at a seat, by calls that are told
+-- a turn of the connection at a seat, by calls that are reported
 going_turn : (calls calls_then : List ConnectionCall) (seats seats_then : List ConversationState)
     (c c_then : ConversationState) (n : ℕ) (lines : List (List ℕ))
     → Changes seats seats_then c c_then → c.number ≡ Some n → c_then.number ≡ c.number
@@ -172,7 +172,7 @@ done_over calls n c heard done =
     ∙ ap (λ (rest : List ℕ). c.ended || nat_le line_limit (length rest))
     (rest_behind heard.before c.bytes heard.whole) ∙ done
 
--- a connection that is done was closed, by calls that are told
+-- a connection that is done was closed, by calls that are reported
 going_closed : (calls calls_then more : List ConnectionCall)
     (seats seats_then : List ConversationState) (c : ConversationState) (came : ℕ)
     → AreQuiet more → calls_then ≡ calls ++ more → Changes seats seats_then c free_seat

@@ -1,6 +1,6 @@
 -- What is handed in over several calls.
 -- For `ControlPath`.
--- By: what comes next behind what comes next is what comes next of both.
+-- By: what comes next after what comes next is what comes next of both.
 use Rattle.std.proofs.Common.{◌≡◌, ◌++◌, List, [], Option, Some, None, ap, sym, ◌∙◌}
 use Rattle.std.proofs.Common.{append_assoc}
 use Rattle.std.proofs.lemmas.List.{append-nil}
@@ -13,7 +13,7 @@ pub tells_nothing : (calls : Option (List ConnectionCall)) → TellsMore calls c
 tells_nothing None = tt
 tells_nothing (Some calls) = sym (append-nil calls)
 
--- what is handed in first, and what is handed in behind it
+-- what is handed in first, and what is handed in after it
 pub both_handed_in : (says : List ConnectionCall → List Said)
     (old between new : Option (List ConnectionCall))
     (left left_between left_then first next : List Said)

@@ -103,7 +103,7 @@ hears_found calls calls_then heard heard_then hears = record {
   hears = refl;
 }
 
--- what is heard where something was handed in, or nothing, behind calls by which nothing was
+-- what is heard where something was handed in, or nothing, after calls by which nothing was
 pub hears_more : (one two three : Option (List ConnectionCall)) (found a b c : Bool)
     → Hears one two a b → Hears two three (found || b) c → Hears one three (found || a) c
 hears_more one two three true a b c first second = record {
@@ -122,7 +122,7 @@ hears_refused n calls calls_then heard refused = record {
   hears = sym (or_false heard);
 }
 
--- where a line is there behind a read, and none was before it, something came
+-- where a line is there after a read, and none was before it, something came
 pub line_came : (came : Came) (found : Option ℕ) (old new : ConversationState)
     → (came ≡ Nothing → new ≡ old) → has_line old.bytes ≡ false
     → IfSome found (λ count. has_line new.bytes ≡ true)
@@ -133,7 +133,7 @@ line_came Nothing (Some count) old new same none some = never_both (has_line new
     (ap (λ (c : ConversationState). has_line c.bytes) (same refl) ∙ none)
 line_came Ended (Some count) old new same none some = refl
 
--- what is heard of a read, and of a line that is handed in behind it
+-- what is heard of a read, and of a line that is handed in after it
 pub hears_line : (one two three : Option (List ConnectionCall)) (found : Option ℕ)
     (heard came : Bool) → Hears one two heard heard → Hears two three false came
     → IfSome found (λ count. came ≡ true)
@@ -160,7 +160,7 @@ hears_through one two three four five six a b c d e f first second third fourth 
     (hears_next one three four a c d (hears_next one two three a b c first second) third) fourth)
     last
 
--- who doesn't wait is none
+-- where none waits there is no number
 none_of : (waiting : Option ℕ) → is_some waiting ≡ false → waiting ≡ None
 none_of None none = refl
 none_of (Some n) none = cc
@@ -206,7 +206,7 @@ pub unheard_before : (calls calls_then : Option (List ConnectionCall)) (heard he
 unheard_before calls calls_then heard heard_then hears none =
     (or_parts heard (has_brought hears.more) (sym hears.hears ∙ none)).0
 
--- who was read from is who speaks, whatever else was called before and behind that
+-- the one that was read from is the one that speaks, whatever else was called before and after
 pub reads_among : (one two three four : Option (List ConnectionCall))
     (speaking speaking_then : Option ℕ) (a b c d : Bool) → Hears one two a b
     → ReadsSpeaker two three speaking → Hears three four c d → StillSpeaks speaking speaking_then

@@ -1,6 +1,6 @@
 -- What a read adds to the bytes of an intake.
 -- For `fill`.
--- By: the bytes that came stand behind those that were there.
+-- By: the bytes that came follow those that were there.
 use Rattle.std.proofs.Common.{◌≡◌, false, ℕ, ◌+◌, ◌-◌, ◌≤◌, List, ◌++◌, length, take, drop}
 use Rattle.std.proofs.Common.{refl, ap, sym, ◌∙◌, arith}
 use Rattle.std.proofs.lemmas.List.{take_at, drop_at, take-take, drop-take, take-append-drop}
@@ -43,13 +43,13 @@ take_both k n l =
     let behind : drop k (take (k + n) l) ≡ take n (drop k l) = drop-take k n l in
     sym (take-append-drop k (take (k + n) l)) ∙ rw (front, behind) refl
 
--- how many bytes lie there
+-- how many bytes are there
 pub lying_length : (room : List ℕ) (begin «end» : ℕ) → «end» ≤ length room
     → length (lying room begin «end») ≡ «end» - begin
 lying_length room begin «end» within =
     omega (arith, length-drop begin (take «end» room), length-take-le «end» room within)
 
--- A room that has the bytes that were there and, behind them, those that came.
+-- A room that has the bytes that were there and, after them, those that came.
 module _ (came : Came) (items room rest : List ℕ) (len begin «end» : ℕ)
     (size : length room ≡ len) (within : «end» ≤ length items)
     (bytes : take («end» - begin + came_count came) room

@@ -70,7 +70,7 @@ unread_kept calls calls_then bound bound_then unheard more unread k above =
     let now = unread k (omega arith) in
     ((unheard k).bytes ∙ now.0, (unheard k).ended ∙ now.1)
 
--- after calls that read nothing, whoever came
+-- after calls that read nothing, whichever connection came
 pub known_quiet : (calls calls_then : List ConnectionCall) (seats : List ConversationState)
     (came came_then : ℕ) → ((k : ℕ) → IsUnheard calls calls_then k) → came ≤ came_then
     → AreTrueOf calls seats came → AreTrueOf calls_then seats came_then

@@ -132,7 +132,7 @@ parts_unended (suc seen) (byte ∷ bytes) front back =
     let both = or_parts (byte == line_end) (has_line (take seen bytes)) front in
     rw both.0 (parts_unended seen bytes both.1 back)
 
--- a first line behind bytes without the end of a line
+-- a first line after bytes without the end of a line
 line_behind : (seen : ℕ) (bytes : List ℕ) (n : ℕ) → seen ≤ length bytes
     → has_line (take seen bytes) ≡ false → IsFirstLine (drop seen bytes) n
     → IsFirstLine bytes (seen + n)
@@ -162,7 +162,7 @@ unended_step : (ends : Bool) (byte : ℕ) (bytes : List ℕ) → byte == line_en
 unended_step true byte bytes here later = rw here refl
 unended_step false byte bytes here later = rw here (rw here later)
 
--- what stands before the first end of a line has none
+-- what comes before the first end of a line has none
 pub first_unended : (bytes : List ℕ) → IsUnended (first_line bytes)
 first_unended [] = refl
 first_unended (byte ∷ bytes) =
@@ -177,7 +177,7 @@ split_step true byte bytes here later has =
 split_step false byte bytes here later has =
     rw here (ap (λ (l : List ℕ). byte ∷ l) (later has))
 
--- the first line, its end, and what stands behind it
+-- the first line, its end, and what follows it
 pub first_split : (bytes : List ℕ) → has_line bytes ≡ true
     → bytes ≡ first_line bytes ++ line_end ∷ behind_line bytes
 first_split [] has = absurd (false≢true has)

@@ -1,6 +1,6 @@
 -- Which connection was asked for, and which was read from, where nothing was found.
 -- For both paths.
--- By: what each call adds; who speaks last spoke all the time, or in the place of one that did.
+-- By: what each call adds; the last speaker spoke all the time, or in the place of one that did.
 use Rattle.std.proofs.Common.{◌≡◌, ℕ, ◌+◌, ◌<◌, ◌==◌, ◌||◌, ◌++◌, ◌⊎◌, List, [], ◌∷◌, Bool}
 use Rattle.std.proofs.Common.{true, false, Option, Some, None, refl, ap, sym}
 use Rattle.std.proofs.Common.{◌∙◌, subst, map, inl, inr}
@@ -78,7 +78,7 @@ asks_not calls may came never = record {
   failed = refl;
 }
 
--- where it was asked for, and what else was asked behind that
+-- where it was asked for, and what else was asked after that
 pub asks_accept : (one two three : Option (List ConnectionCall)) (may : Type 0) (came : ℕ)
     (answer : Accepted) (fault : Bool) → TellsMore one two (Accepts (came + 1) answer ∷ [])
     → is_failed answer ≡ fault → NoneFails two three → AsksNext one three may came fault
@@ -100,7 +100,7 @@ refused_fails n calls calls_then refused = record {
   unfailed = refl;
 }
 
--- who speaks stays
+-- the one that speaks stays
 pub takes_same : (calls calls_then : Option (List ConnectionCall))
     (speaking speaking_then : Option ℕ) → speaking_then ≡ speaking → NoneFails calls calls_then
     → TakesTurn calls calls_then speaking speaking_then
@@ -111,7 +111,7 @@ takes_same calls calls_then speaking speaking_then same tells = record {
   unfailed = tells.unfailed;
 }
 
--- who spoke was closed
+-- the one that spoke was closed
 pub takes_closed : (calls calls_then : Option (List ConnectionCall)) (n : ℕ)
     (speaking speaking_then : Option ℕ) → speaking ≡ Some n
     → TellsMore calls calls_then (Closes n ∷ [])
@@ -135,7 +135,7 @@ listens_none calls speaking none = record {
   unfailed = refl;
 }
 
--- who speaks behind a read is the one that was read from
+-- the one that speaks after a read is the one that was read from
 read_whose : (n k : ℕ) (c c_then : ConversationState)
     (calls calls_then : Option (List ConnectionCall)) → c.number ≡ Some n
     → (read : HasRead n c c_then calls calls_then) → c_then.number ≡ Some k
@@ -167,7 +167,7 @@ listens_read n c c_then calls calls_then number read = record {
   unfailed = refl;
 }
 
--- who had its turn by some calls had it by these and more
+-- one that had its turn by some calls had it by these and more
 turn_more : (n : ℕ) (first second : List ConnectionCall) → IsTurnOf n first
     → IsTurnOf n (first ++ second)
 turn_more n first second turn = elim turn [
@@ -179,7 +179,7 @@ turn_more n first second turn = elim turn [
   })
 ]
 
--- who had its turn by some calls had it by more and these
+-- one that had its turn by some calls had it by more and these
 turn_behind : (n : ℕ) (first second : List ConnectionCall) → IsTurnOf n second
     → IsTurnOf n (first ++ second)
 turn_behind n first second turn = elim turn [
@@ -191,7 +191,7 @@ turn_behind n first second turn = elim turn [
   })
 ]
 
--- one that was read from, or its place, was closed behind that
+-- one that was read from, or its place, was closed after that
 turn_closed : (n whose : ℕ) (first second : List ConnectionCall) → IsTurnOf whose first
     → was_closed whose second ≡ true → IsTurnOf n (first ++ second)
 turn_closed n whose first second turn closed = elim turn [
@@ -203,7 +203,7 @@ turn_closed n whose first second turn closed = elim turn [
   | inr was ↦ turn_more n first second (inr was)
 ]
 
--- who speaks behind that had its turn
+-- the one that speaks after that had its turn
 turn_then : (n : ℕ) (speaking : Option ℕ) (first second : List ConnectionCall)
     → ((k : ℕ) → speaking ≡ Some k → IsTurnOf k first)
     → ((speaking ≡ Some n) ⊎ WasClosed speaking second) → IsTurnOf n (first ++ second)
@@ -212,7 +212,7 @@ turn_then n speaking first second reads follows = elim follows [
   | inr was ↦ turn_closed n was.whose first second (reads was.whose was.spoke) was.closed
 ]
 
--- who speaks behind a read spoke then, or in the place of one that did
+-- the one that speaks after a read spoke then, or in the place of one that did
 pub listens_then : (one two three : Option (List ConnectionCall))
     (speaking speaking_then : Option ℕ) → Listens one two speaking
     → TakesTurn two three speaking speaking_then → Listens one three speaking_then

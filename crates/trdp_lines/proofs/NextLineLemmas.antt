@@ -15,7 +15,7 @@ use Rattle.trdp_lines.specs.Seats.{IsSilentAt, StaySilent}
 use Rattle.trdp_lines.proofs.HandingLemmas.{both_handed_in}
 use Rattle.trdp_lines.proofs.SeatLemmas.{nothing_left}
 
--- behind a step that hands in nothing comes what the next one hands in
+-- after a step that hands in nothing comes what the next one hands in
 pub lines_next : (one two three : Option (List ConnectionCall))
     (seats mid seats_then : List ConversationState) (texts : List Said)
     → HandsInLines one two seats mid [] → HandsInLines two three mid seats_then texts
@@ -42,7 +42,7 @@ next_found one two three seats mid seats_then room (Some found) room_then first 
       bytes = second.bytes;
     }
 
--- nothing is left behind two rounds in which none was found
+-- nothing is left after two rounds in which none was found
 pub none_found : (seats seats_then : List ConversationState) (first : ℕ)
     (found : Option (ℕ × ℕ)) → ((k : ℕ) → first ≤ k → k < 4 → IsSilentAt seats k)
     → IfNone found ((k : ℕ) → 0 ≤ k → k < first → IsSilentAt seats_then k)

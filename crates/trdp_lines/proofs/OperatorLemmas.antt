@@ -1,6 +1,6 @@
--- A path whose connections may tell what was asked of them, after one of its steps.
+-- A path whose connections may report what was asked of them, after one of its steps.
 -- For the path of the operator's port.
--- By: cases on which calls are told; what holds of those that are.
+-- By: cases on which calls are reported; what holds of those that are.
 use Rattle.std.proofs.Common.{◌≡◌, ℕ, ◌<◌, ◌≤◌, List, [], ◌∷◌, Option, Some, None}
 use Rattle.std.proofs.Common.{length, set, get_or, ap, sym, subst, ◌∙◌, option_map}
 use Rattle.std.proofs.lemmas.List.{length-set, get_or-set_other, get_or-set_same, get_or_read}
@@ -48,7 +48,7 @@ pub others_kept : (seats : List ConversationState) (place : ℕ) (c : Conversati
     → KeepsOthers place seats (set seats place c)
 others_kept seats place c = λ k other. get_or-set_other seats place k c free_seat other
 
--- what is known after a turn, by calls that may not be told
+-- what is known after a turn, by calls that may not be reported
 known_turn_told : (calls calls_then : Option (List ConnectionCall))
     (seats seats_then : List ConversationState) (c c_then : ConversationState) (n came : ℕ)
     (lines : List (List ℕ)) → Changes seats seats_then c c_then → c.number ≡ Some n

@@ -1,6 +1,6 @@
 -- What goes out over a run of steps.
 -- For `texts_go_whole`.
--- By: induction on the steps; the texts that were dropped and not told yet come before the others.
+-- By: induction on the steps; the texts that were dropped and not reported come before the others.
 use Rattle.std.proofs.Common.{◌≡◌, ℕ, ◌+◌, ◌≤◌, List, [], ◌∷◌, ◌++◌}
 use Rattle.std.proofs.Common.{length, take, drop, Bool, true, false, if◌then◌else◌, min}
 use Rattle.std.proofs.Common.{refl, ap, sym, subst, ◌∙◌, arith, append_assoc, length-append}
@@ -14,13 +14,13 @@ use Rattle.trdp_lines.specs.OutgoingRuns.{OutgoingStep, Pushed, Told, Took, Piec
 use Rattle.trdp_lines.specs.OutgoingRuns.{after_steps, taken, gone_and_waiting}
 use Rattle.trdp_lines.specs.OutgoingRuns.{texts_of, bytes_of_pieces, StandFor, GoesWhole}
 
--- these bytes are those that wait and pieces behind them, which stand for these texts
+-- these bytes are those that wait and pieces after them, which represent these texts
 record Goes (bytes waiting : List ℕ) (lost : ℕ) (texts : List (List ℕ)) : Type 0 where
   pub pieces : List Piece
   pub bytes_are : bytes ≡ waiting ++ bytes_of_pieces pieces
   pub stand : StandFor pieces lost texts
 
--- the same from a state on, whatever texts were dropped and not told yet
+-- the same from a state on, whatever texts were dropped and not reported yet
 abbrev GoesFrom : List ℕ → ℕ → List (List ℕ) → OutgoingState → Type 0
 GoesFrom bytes lost texts state = (untold : List (List ℕ)) → length untold ≡ state.lost
     → Goes bytes state.waiting lost (untold ++ texts)

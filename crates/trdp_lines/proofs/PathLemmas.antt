@@ -216,7 +216,7 @@ first_true calls c came is = (
       (accept_unheard (came + 1) Came) is.1),
 )
 
--- behind one that speaks it waits
+-- where one speaks it waits
 pub behind_true : (calls : List ConnectionCall) (n : ℕ) (c : ConversationState) (came : ℕ)
     → IsTrueOf calls (Some n) c None came
     → IsTrueOf (with_next calls came) (Some n) c (Some (came + 1)) (came + 1)

@@ -1,4 +1,4 @@
--- Who speaks or waits over several calls, and what becomes of the others.
+-- Which connections speak or wait over several calls, and what becomes of the others.
 -- For `ControlPath`.
 -- By: whether a connection has a place between them; one without a place isn't read from.
 use Rattle.std.proofs.Common.{◌≡◌, ℕ, ◌<◌, ◌≤◌, ◌==◌, ◌||◌, ◌++◌, ◌⊎◌, List, [], ◌∷◌}
@@ -22,7 +22,7 @@ use Rattle.trdp_lines.proofs.PathLemmas.{speaker_of}
 use Rattle.trdp_lines.proofs.SeatLemmas.{number_of_same}
 use Rattle.trdp_lines.proofs.TurnLemmas.{unheard_by}
 
--- who speaks and who waits, of so many that came
+-- the one that speaks and the one that waits, and how many came
 abbrev pub at : Option ℕ → Option ℕ → ℕ → Places
 at number waiting came = record { speaking = number; waiting = waiting; came = came }
 
@@ -59,7 +59,7 @@ served_kept n calls calls_then more places places_then told unheard none served 
   ]
 ]
 
--- one that is served in between is served behind that
+-- one that is served in between is served after that
 served_next : (has : Bool) (n : ℕ) (calls calls_then : List ConnectionCall) (b c : Places)
     → has_place n b ≡ has → n ≤ b.came → Proceeds calls calls_then b c
     → IsServed n (Some calls) b → IsServed n (Some calls_then) c
@@ -68,7 +68,7 @@ served_next false n calls calls_then b c has came goes served =
     served_kept n calls calls_then goes.more b c goes.told (goes.others n came has).unheard has
     served
 
--- one that came in between or only behind that
+-- one that came in between or only after that
 next_next : (n : ℕ) (one two three : List ConnectionCall) (a b c : Places)
     → Proceeds one two a b → Proceeds two three b c → a.came < n → n ≤ c.came
     → IsServed n (Some three) c
@@ -78,7 +78,7 @@ next_next n one two three a b c first second more low = elim (cases_lt b.came n)
       (first.next n more early)
 ]
 
--- what proceeds behind what proceeds, by calls that are told
+-- what proceeds after what proceeds, by calls that are reported
 proceeding_next : (one two three : List ConnectionCall) (a b c : Places) → a.came ≤ b.came
     → Proceeds one two a b → Proceeds two three b c → Proceeds one three a c
 proceeding_next one two three a b c order first second = record {
@@ -100,7 +100,7 @@ proceeding_next one two three a b c order first second = record {
   next = λ n more low. next_next n one two three a b c first second more low;
 }
 
--- what proceeds behind what proceeds
+-- what proceeds after what proceeds
 pub proceeds_next : (one two three : Option (List ConnectionCall)) (a b c : Places)
     → a.came ≤ b.came → ProceedsIfTold one two a b → ProceedsIfTold two three b c
     → ProceedsIfTold one three a c
@@ -254,7 +254,7 @@ closed_fate calls calls_then n c told heard why = elim why [
   | inr mute ↦ inr (silent_way calls calls_then n c told heard mute.0 mute.1)
 ]
 
--- the same of calls that may not be told, by the names of what is there then
+-- the same of calls that may not be reported, by the names of what is there then
 pub proceeds_closed : (calls calls_then : Option (List ConnectionCall)) (n : ℕ)
     (c begun : ConversationState) (waiting waiting_then : Option ℕ) (came : ℕ)
     → c.number ≡ Some n → begun ≡ conversation_of waiting → waiting_then ≡ None
@@ -298,7 +298,7 @@ proceeding_refused calls calls_then next number waiting came waits refused = rec
   next = λ k high low. absurd (omega (arith, high, low));
 }
 
--- the same of calls that may not be told
+-- the same of calls that may not be reported
 pub proceeds_refused : (calls calls_then : Option (List ConnectionCall)) (next : ℕ)
     (number waiting waiting_then : Option ℕ) (came : ℕ) → waiting ≡ Some next
     → waiting_then ≡ None → IsRefused next calls calls_then

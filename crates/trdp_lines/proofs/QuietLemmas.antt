@@ -1,6 +1,6 @@
--- A path whose connections may tell what was asked of them, after calls that read nothing.
+-- A path whose connections may report what was asked of them, after calls that read nothing.
 -- For the path of the operator's port.
--- By: cases on which calls are told; nothing more is said, and the same is left.
+-- By: cases on which calls are reported; nothing more is said, and the same is left.
 use Rattle.std.proofs.Common.{◌≡◌, ℕ, ◌+◌, ◌<◌, ◌≤◌, ◌++◌, List, [], ◌∷◌, Option, Some, None}
 use Rattle.std.proofs.Common.{length, set, get_or, ap, sym, ◌∙◌, append_assoc}
 use Rattle.std.proofs.lemmas.List.{length-set}
@@ -30,7 +30,7 @@ lines_quiet (Some calls) (Some calls_then) more seats seats_then quiet told same
     hands_in_same k calls calls_then (left_in k seats) (left_in k seats_then)
     (unheard_by calls calls_then more quiet told k).bytes (same k)
 
--- what is known after a connection was closed, by calls that may not be told
+-- what is known after a connection was closed, by calls that may not be reported
 closed_told : (calls calls_then : Option (List ConnectionCall)) (more : List ConnectionCall)
     (seats seats_then : List ConversationState) (c : ConversationState) (came : ℕ)
     → AreUnheard more → TellsMore calls calls_then more → Changes seats seats_then c free_seat
@@ -60,7 +60,7 @@ path_closed calls calls_then more seats place c came next within here quiet told
       (changes_at seats place c free_seat within here) path.known;
 }
 
--- what is known where the seats stay, by calls that may not be told
+-- what is known where the seats stay, by calls that may not be reported
 quiet_told : (calls calls_then : Option (List ConnectionCall)) (more : List ConnectionCall)
     (seats : List ConversationState) (came came_then : ℕ)
     → AreUnheard more → TellsMore calls calls_then more → came ≤ came_then
@@ -72,7 +72,7 @@ quiet_told (Some calls) (Some calls_then) more seats came came_then quiet told l
     known_quiet calls calls_then seats came came_then (unheard_by calls calls_then more quiet told)
     le known
 
--- a path whose seats stay, whoever came
+-- a path whose seats stay, whichever connection came
 pub path_quiet : (calls calls_then : Option (List ConnectionCall))
     (more : List ConnectionCall) (seats : List ConversationState) (came came_then next : ℕ)
     → AreUnheard more → TellsMore calls calls_then more → came ≤ came_then
@@ -86,7 +86,7 @@ path_quiet calls calls_then more seats came came_then next quiet told le within 
   known = quiet_told calls calls_then more seats came came_then quiet told le path.known;
 }
 
--- what is known after the next connection got a seat, by calls that may not be told
+-- what is known after the next connection got a seat, by calls that may not be reported
 seated_told : (calls calls_then : Option (List ConnectionCall)) (more : List ConnectionCall)
     (seats seats_then : List ConversationState) (c : ConversationState) (came : ℕ)
     → AreUnheard more → TellsMore calls calls_then more
@@ -137,7 +137,7 @@ seated_left seats place c n within here free k =
     left_same k seats (set seats place new) c new (changes_at seats place c new within here)
     (next_left k n ∙ sym (free_left k c free))
 
--- two calls are told one after the other
+-- two calls are reported one after the other
 pub told_both : (one two three : Option (List ConnectionCall)) (first second : ConnectionCall)
     → TellsMore one two (first ∷ []) → TellsMore two three (second ∷ [])
     → TellsMore one three (first ∷ second ∷ [])

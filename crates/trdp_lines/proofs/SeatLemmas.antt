@@ -1,6 +1,6 @@
 -- The seats of a path, of which one changes.
 -- For the path of the operator's port.
--- By: induction on the seats before it and behind it; each connection has one seat at most.
+-- By: induction on the seats before it and after it; each connection has one seat at most.
 use Rattle.std.proofs.Common.{◌≡◌, ℕ, suc, ◌+◌, ◌<◌, ◌++◌, List, [], ◌∷◌}
 use Rattle.std.proofs.Common.{Bool, true, false, if◌then◌else◌, Option, Some, None, length, take}
 use Rattle.std.proofs.Common.{drop, set, get_or, refl, ap, sym, ◌∙◌, arith}
@@ -123,7 +123,7 @@ pub heard_front : (calls : List ConnectionCall) (front back : List ConversationS
 heard_front calls [] back heard = tt
 heard_front calls (c ∷ front) back heard = (heard.0, heard_front calls front back heard.1)
 
--- what is known at the seats behind it
+-- what is known at the seats after it
 pub heard_back : (calls : List ConnectionCall) (front back : List ConversationState)
     → AreHeard calls (front ++ back) → AreHeard calls back
 heard_back calls [] back heard = heard

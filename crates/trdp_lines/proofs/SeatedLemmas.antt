@@ -33,7 +33,7 @@ one_seat n came all front back is once below = (
   ],
 )
 
--- no seat before or behind its own is that of a connection, and it came
+-- no seat before or after its own is that of a connection, and it came
 pub alone : (seats front back : List ConversationState)
     (c : ConversationState) (n came : ℕ) → seats ≡ front ++ c ∷ back → c.number ≡ Some n
     → AreSeated seats came → IsAlone n came front back

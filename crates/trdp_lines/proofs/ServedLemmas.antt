@@ -1,6 +1,6 @@
 -- A connection that came: it has a seat, is over, or was refused.
 -- For the path of the operator's port.
--- By: whether it has a seat; what was told stays told.
+-- By: whether it has a seat; what was reported stays reported.
 use Rattle.std.proofs.Common.{◌≡◌, ℕ, ◌<◌, ◌++◌, List, [], ◌∷◌, Bool, true, false, Option, Some}
 use Rattle.std.proofs.Common.{None, length, set, get_or, refl, ap, sym, ◌∙◌, append_assoc, inl, inr}
 use Rattle.std.proofs.Common.{subst}
@@ -47,7 +47,7 @@ refused_then n calls calls_then seats seats_then goes was = record {
       ∙ append_assoc was.before (Writes n was.writing ∷ Closes n ∷ was.behind) goes.more;
 }
 
--- behind calls by which all goes on
+-- after calls by which all goes on
 pub served_then : (n : ℕ) (calls calls_then : Option (List ConnectionCall))
     (seats seats_then : List ConversationState) → IsServed n calls seats
     → GoesOnIfTold calls calls_then seats seats_then → IsServed n calls_then seats_then
@@ -91,7 +91,7 @@ served_seated n (Some calls) seats place within =
     ap (is_of n) (get_or-set_same seats place seat free_seat within) ∙ eq-eqb n n refl in
     inl (list_any_at (is_of n) (set seats place seat) place free_seat there mine)
 
--- one that came, behind calls by which all goes on
+-- one that came, after calls by which all goes on
 pub comes_served : (first came last : ℕ) (calls calls_then : Option (List ConnectionCall))
     (seats seats_then : List ConversationState) → (first < came → IsServed came calls seats)
     → GoesOnIfTold calls calls_then seats seats_then → last ≡ came → first < last

@@ -1,6 +1,6 @@
 -- What all applications at a path say, and what a read from the one that speaks adds to it.
 -- For `ControlPath`.
--- By: those before it said what they say, and those behind it say nothing.
+-- By: those before it said what they say, and those after it say nothing.
 use Rattle.std.proofs.Common.{◌≡◌, ◌==◌, ◌||◌, ◌++◌, ℕ, ◌+◌, ◌<◌, ◌≤◌, List, [], ◌∷◌, Bool, true}
 use Rattle.std.proofs.Common.{false, Option, Some, None, if◌then◌else◌, refl, ap, sym, ◌∙◌, arith}
 use Rattle.std.proofs.Common.{append_assoc}
@@ -63,7 +63,7 @@ says_speaker calls n c came speaker =
     ∙ ap (λ (l : List Said). front ++ l) (says_heard calls n c speaker.heard)
     ∙ sym (append_assoc front (said_by n (lines_in speaker.heard.before)) (left_by (Some n) c))
 
--- the calls with one read behind them, and what is known of the connection then
+-- the calls with one read after them, and what is known of the connection then
 abbrev pub with_read : List ConnectionCall → ℕ → Reading → List ConnectionCall
 with_read calls n reading = calls ++ Reads n reading ∷ []
 

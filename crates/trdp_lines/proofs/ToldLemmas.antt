@@ -1,6 +1,6 @@
--- What is known of a path's connections, and what is handed in, over calls that may be told.
+-- What is known of a path's connections, and what is handed in, over calls that may be reported.
 -- For `ControlPath`.
--- By: cases on whether the calls are told; where they are, what they say is known.
+-- By: cases on whether the calls are reported; where they are, what they say is known.
 use Rattle.std.proofs.Common.{Bool, ◌≡◌, ◌++◌, ℕ, ◌+◌, List, [], ◌∷◌, true, false, map}
 use Rattle.std.proofs.Common.{Option, Some, None, refl, ap, sym, subst, ◌∙◌, arith}
 use Rattle.std.specs.Prelude.{is_some, not, ◌||◌, ◌&&◌}
@@ -100,7 +100,7 @@ line_kept (Some calls) n c c_then waiting came number has is known =
     (unnumbered calls c.number n (line_gone c) waiting came number (line_true calls n c waiting came
     has (numbered calls c.number n c waiting came number known)))
 
--- that line comes next, and behind it what is left then
+-- that line comes next, and after it what is left then
 pub line_left_of : (n : ℕ) (c c_then : ConversationState) → c.number ≡ Some n
     → has_line c.bytes ≡ true → c_then ≡ line_gone c
     → left_of c ≡ (n, first_line c.bytes) ∷ left_of c_then
@@ -190,7 +190,7 @@ read_handed_in_by old new (Some m) n c waiting came reading number told known re
     (ap applications_say (subst (λ (k : ℕ). new ≡ with_read old k reading) (sym same) told)
     ∙ read_says old m c came reading (speaker_of old m c waiting came known) none)
 
--- the same of calls that may not be told
+-- the same of calls that may not be reported
 pub read_handed_in : (old new : Option (List ConnectionCall)) (n : ℕ)
     (c c_then : ConversationState) (waiting : Option ℕ) (came : ℕ) → c.number ≡ Some n
     → HasRead n c c_then old new → IsTrueIfTold old c waiting came → IsReadyIf c.number c
@@ -212,7 +212,7 @@ first_true_by old None c None came none unwaited known = first_true old c came k
 first_true_by old None c (Some next) came none unwaited known = absurd known
 first_true_by old (Some n) c waiting came none unwaited known = cc
 
--- the same of calls that may not be told
+-- the same of calls that may not be reported
 pub first_kept : (old new : Option (List ConnectionCall)) (c : ConversationState)
     (waiting : Option ℕ) (came : ℕ) → is_some c.number ≡ false → is_some waiting ≡ false
     → TellsMore old new (Accepts (came + 1) Came ∷ []) → IsTrueIfTold old c waiting came
@@ -224,7 +224,7 @@ first_kept (Some old) (Some new) c waiting came none unwaited told known =
     (conversation_of (Some (came + 1))) waiting (came + 1)) (sym told)
     (first_true_by old c.number c waiting came none unwaited known)
 
--- the next connection came, and waits behind the one that speaks
+-- the next connection came, and waits after the one that speaks
 behind_true_by : (old : List ConnectionCall) (number : Option ℕ) (c : ConversationState)
     (waiting : Option ℕ) (came : ℕ) → is_some number ≡ true → is_some waiting ≡ false
     → IsTrueOf old number c waiting came
@@ -233,7 +233,7 @@ behind_true_by old (Some n) c None came some unwaited known = behind_true old n 
 behind_true_by old (Some n) c (Some next) came some unwaited known = cc
 behind_true_by old None c waiting came some unwaited known = cc
 
--- the same of calls that may not be told
+-- the same of calls that may not be reported
 pub behind_kept : (old new : Option (List ConnectionCall)) (c : ConversationState)
     (waiting : Option ℕ) (came : ℕ) → is_some c.number ≡ true → is_some waiting ≡ false
     → TellsMore old new (Accepts (came + 1) Came ∷ []) → IsTrueIfTold old c waiting came
@@ -274,7 +274,7 @@ closed_kept (Some calls) n c waiting came number known =
     unnumbered calls c.number n c None came number
     (closed_true calls n c waiting came (numbered calls c.number n c waiting came number known))
 
--- one is closed of which nothing is left, and nothing is left of the one behind it
+-- one is closed of which nothing is left, and nothing is left of the one after it
 pub closed_handed_in : (old new : Option (List ConnectionCall)) (n : ℕ)
     (left left_then : List Said) → left ≡ [] → left_then ≡ [] → TellsMore old new (Closes n ∷ [])
     → HandsIn applications_say old new left left_then []

@@ -59,7 +59,7 @@ write_turn n calls calls_then old new texts written =
           (ap (λ (c : ConversationState). c.ended) written.written);
     }
 
--- the same of calls that may not be told
+-- the same of calls that may not be reported
 pub written_turn : (n : ℕ) (calls calls_then : Option (List ConnectionCall))
     (old new : ConversationState) (texts : List (List ℕ))
     → HasWritten n texts old new calls calls_then
@@ -99,7 +99,7 @@ read_turn n calls calls_then old new read =
       };
     }
 
--- the same of calls that may not be told
+-- the same of calls that may not be reported
 pub heard_turn : (n : ℕ) (calls calls_then : Option (List ConnectionCall))
     (old new : ConversationState) → HasRead n old new calls calls_then
     → HasTurnIfTold n calls calls_then old new []
@@ -135,7 +135,7 @@ still_turn n (Some calls) old new is = record {
   own = rw is (λ was. record { heard = was; more = sym (append-nil (lines_in was.before)) });
 }
 
--- a turn behind one where nothing is handed in, by calls that are told
+-- a turn after one where nothing is handed in, by calls that are reported
 next_told : (n : ℕ) (one two three : List ConnectionCall) (a b c : ConversationState)
     (lines : List (List ℕ)) → HasTurn n one two a b [] → HasTurn n two three b c lines
     → HasTurn n one three a c lines
@@ -158,7 +158,7 @@ next_told n one two three a b c lines first second = record {
       };
 }
 
--- a turn behind one where nothing is handed in
+-- a turn after one where nothing is handed in
 pub turn_next : (n : ℕ) (one two three : Option (List ConnectionCall))
     (a b c : ConversationState) (lines : List (List ℕ)) → HasTurnIfTold n one two a b []
     → HasTurnIfTold n two three b c lines → HasTurnIfTold n one three a c lines
@@ -171,7 +171,7 @@ turn_next n (Some one) (Some two) None a b c lines first second = tt
 turn_next n (Some one) (Some two) (Some three) a b c lines first second =
     next_told n one two three a b c lines first second
 
--- the next line is handed in behind a turn where none is, if one is there
+-- the next line is handed in after a turn where none is, if one is there
 pub line_if : (n : ℕ) (calls calls_then : Option (List ConnectionCall))
     (old mid new : ConversationState) (room : ℕ) (found : Option ℕ) (room_then : List ℕ)
     → HasTurnIfTold n calls calls_then old mid []

@@ -53,7 +53,7 @@ written_both n a b c one two three first second = record {
       (sym (after_both a.outgoing first.steps second.steps));
 }
 
--- what was dropped is told, or not, and nothing is written
+-- what was dropped is reported, or not, and nothing is written
 pub told_alone : (n : ℕ) (old : ConversationState) (out : OutgoingState)
     (calls : Option (List ConnectionCall)) → out ≡ lost_told old.outgoing
     → HasWritten n [] old (record old { outgoing = out }) calls calls

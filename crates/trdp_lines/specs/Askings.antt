@@ -38,7 +38,7 @@ is_failed Came = false
 is_failed Nothing = false
 is_failed Failed = true
 
--- a call was answered so
+-- a call had this answer
 abbrev pub fails : ConnectionCall → Bool
 fails (Accepts number answer) = is_failed answer
 fails (Reads number reading) = false
@@ -88,8 +88,8 @@ abbrev pub IsTurnOf : ℕ → List ConnectionCall → Type 0
 IsTurnOf n calls = (was_read n calls ≡ true) ⊎ WasReplaced calls
 
 -- Between these calls the next connection was asked for, unless one waited or the last number was
--- given; the one that speaks then was read from, or the one in whose place it speaks; and the
--- system refused a connection, or didn't. It is known of what tells.
+-- given. The one that speaks then was read from, or the one in whose place it speaks. The system
+-- refused a connection, or didn't. It is known only where the calls are reported.
 pub record AsksSpeaker (calls calls_then : Option (List ConnectionCall)) (waiting : Option ℕ)
     (came : ℕ) (speaking_then : Option ℕ) (fault : Bool) : Type 0 where
   pub more : List ConnectionCall
@@ -120,12 +120,12 @@ pub record AsksOne (n : ℕ) (calls calls_then : Option (List ConnectionCall))
   pub reads : is_done c_then ≡ false → was_read n more ≡ true
   pub unfailed : has_failed more ≡ false
 
--- who has a seat then had it before
+-- each that has a seat then had it before
 abbrev pub Stay : (seats seats_then : List ConversationState) → Type 0
 Stay seats seats_then = (k n : ℕ) → (seat_at seats_then k).number ≡ Some n
     → (seat_at seats k).number ≡ Some n
 
--- the seats from one place to another were asked: who has one of them then was read from
+-- the seats from one place to another were asked: each that has one of them then was read from
 pub record AsksPlaces (first «end» : ℕ) (calls calls_then : Option (List ConnectionCall))
     (seats seats_then : List ConversationState) : Type 0 where
   pub more : List ConnectionCall
@@ -141,7 +141,7 @@ pub record WasClosed (speaking : Option ℕ) (calls : List ConnectionCall) : Typ
   pub spoke : speaking ≡ Some whose
   pub closed : was_closed whose calls ≡ true
 
--- who speaks then spoke before, or speaks in the place of one that was closed
+-- the one that speaks then spoke before, or speaks in the place of one that was closed
 pub record TakesTurn (calls calls_then : Option (List ConnectionCall))
     (speaking speaking_then : Option ℕ) : Type 0 where
   pub more : List ConnectionCall
@@ -165,6 +165,6 @@ pub record ReadsSpeaker (calls calls_then : Option (List ConnectionCall))
   pub told : TellsMore calls calls_then more
   pub reads : (n : ℕ) → speaking_then ≡ Some n → was_read n more ≡ true
 
--- who speaks then spoke before
+-- the one that speaks then spoke before
 abbrev pub StillSpeaks : (speaking speaking_then : Option ℕ) → Type 0
 StillSpeaks speaking speaking_then = (n : ℕ) → speaking_then ≡ Some n → speaking ≡ Some n

@@ -20,7 +20,7 @@ ComesNext calls calls_then came came_then =
     ⊎ (HaveCome calls calls_then ((came + 1) ∷ []) × (came_then ≡ came + 1)
     × (came_then ≤ last_number))
 
--- the connection of this number was told that there is no room for it, and closed
+-- the line `busy` was written to the connection of this number once, and it was closed
 pub record WasRefused (n : ℕ) (calls : List ConnectionCall) : Type 0 where
   pub before : List ConnectionCall
   pub behind : List ConnectionCall

@@ -1,4 +1,4 @@
--- What the connections at a path tell of what was asked of them.
+-- What the connections at a path report of what was asked of them.
 use Rattle.std.specs.Prelude.{◌≡◌, ℕ, ◌<◌, ◌≤◌, Bool, true, false, List, [], ◌++◌, take, Option}
 use Rattle.std.specs.Prelude.{Some, None}
 use Rattle.trdp_lines.specs.declared.connections.Accepted.{Accepted}
@@ -51,25 +51,25 @@ went_count (Took n) = n
 went_count TookNone = 0
 went_count TookNoMore = 0
 
--- where bytes came, it was one at least, and at most so many
+-- where bytes came, it was one at least, and at most that many
 abbrev pub CameWithin : ℕ → Came → Type 0
 CameWithin most (Bytes n) = (0 < n) × (n ≤ most)
 CameWithin most Nothing = Unit {0}
 CameWithin most Ended = Unit {0}
 
--- where bytes went, it was one at least, and at most so many
+-- where bytes went, it was one at least, and at most that many
 abbrev pub WentWithin : ℕ → Went → Type 0
 WentWithin most (Took n) = (0 < n) × (n ≤ most)
 WentWithin most TookNone = Unit {0}
 WentWithin most TookNoMore = Unit {0}
 
--- what a read answered, where what came stands at the front of these bytes
+-- what a read answered, where what came is at the front of these bytes
 abbrev pub arrived_in : Came → List ℕ → Arrived
 arrived_in (Bytes n) bytes = SomeBytes (take n bytes)
 arrived_in Nothing bytes = NoBytes
 arrived_in Ended bytes = NoMore
 
--- a read with room for so many bytes, where what came stands at the front of these
+-- a read with room for that many bytes, where what came is at the front of these
 abbrev pub reading_of : Came → ℕ → List ℕ → Reading
 reading_of came room bytes = record { room = room; arrived = arrived_in came bytes }
 
@@ -87,7 +87,7 @@ bytes_of reading = bytes_arrived reading.arrived
 abbrev pub writing_of : List ℕ → Went → Writing
 writing_of bytes went = record { bytes = bytes; went = went }
 
--- a list that is told afterwards was told before, and these were added to it
+-- a list that is reported afterwards was reported before, and these were added to it
 abbrev pub TellsMore : {X : Type 0} → Option (List X) → Option (List X) → List X → Type 0
 TellsMore old None more = Unit {0}
 TellsMore None (Some new) more = ⊥

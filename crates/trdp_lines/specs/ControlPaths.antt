@@ -1,4 +1,4 @@
--- Who speaks or waits at the path of a control port, and what becomes of it.
+-- Which connections speak or wait at the path of a control port, and what becomes of them.
 use Rattle.std.specs.Prelude.{◌≡◌, ℕ, ◌<◌, ◌≤◌, ◌++◌, ◌||◌, ◌⊎◌, Bool, true, false, List, ◌∷◌}
 use Rattle.std.specs.Prelude.{Option, Some, None, IfSome}
 use Rattle.trdp_lines.specs.Comings.{WasRefused}
@@ -9,14 +9,14 @@ use Rattle.trdp_lines.specs.Paths.{IsTrueIfTold, PathState, speaks}
 use Rattle.trdp_lines.specs.Said.{bytes_from, is_over}
 use Rattle.trdp_lines.specs.Seats.{IsUnheard}
 
--- what holds of a path at any time: who speaks or waits came, and what is known was told
+-- what holds of a path at any time: each that speaks or waits came, and what is known was reported
 pub record IsControlPath (calls : Option (List ConnectionCall)) (c : ConversationState)
     (waiting : Option ℕ) (came : ℕ) : Type 0 where
   pub speaker_came : IfSome c.number (λ n. n ≤ came)
   pub waiting_came : IfSome waiting (λ n. n ≤ came)
   pub known : IsTrueIfTold calls c waiting came
 
--- the one that speaks, the one that waits behind it, and how many came
+-- the one that speaks, the one that waits after it, and how many came
 pub record Places : Type 0 where
   pub speaking : Option ℕ
   pub waiting : Option ℕ
@@ -76,7 +76,7 @@ pub record Proceeds (calls calls_then : List ConnectionCall) (places places_then
   pub next : (n : ℕ) → places.came < n → n ≤ places_then.came
       → IsServed n (Some calls_then) places_then
 
--- the same of calls that may not be told
+-- the same of calls that may not be reported
 abbrev pub ProceedsIfTold : (calls calls_then : Option (List ConnectionCall))
     → (places places_then : Places) → Type 0
 ProceedsIfTold calls None places places_then = Unit {0}

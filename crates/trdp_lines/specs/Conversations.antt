@@ -47,8 +47,7 @@ abbrev pub lines_left_by : Option ℕ → ConversationState → List Said
 lines_left_by None c = []
 lines_left_by (Some n) c = said_by n (lines_in c.bytes)
 
--- one read was made from a connection of this number, whose bytes stand behind those that were
--- there
+-- one read was made from a connection of this number, whose bytes follow those that were there
 pub record HasRead (number : ℕ) (old new : ConversationState)
     (calls calls_then : Option (List ConnectionCall)) : Type 0 where
   pub reading : Reading

@@ -1,4 +1,4 @@
--- What a take heard at a path, and what it comes to where it heard nothing.
+-- What a take heard at a path, and what it means where it heard nothing.
 use Rattle.std.specs.Prelude.{◌≡◌, ℕ, ◌||◌, Bool, true, false, List, Option, Some, None, Result}
 use Rattle.std.specs.Prelude.{Ok, Err}
 use Rattle.std.specs.List.{list_any}
@@ -45,7 +45,7 @@ pub record Hears (calls calls_then : Option (List ConnectionCall)) (heard heard_
   pub told : TellsMore calls calls_then more
   pub hears : heard_then ≡ heard || has_brought more
 
--- Nothing was heard before these calls, nobody waited, and nothing was handed in; and of the calls
+-- Nothing was heard before these calls, none waited, and nothing was handed in; and of the calls
 -- themselves none brought anything.
 pub record IsQuiet (calls calls_then : Option (List ConnectionCall)) (heard : Bool)
     (waiting : Option ℕ) (found : Bool) : Type 0 where
@@ -56,7 +56,7 @@ pub record IsQuiet (calls calls_then : Option (List ConnectionCall)) (heard : Bo
   pub unfound : found ≡ false
   pub nothing : has_brought more ≡ false
 
--- the same at the operator's path, where nobody waits: each that came has a seat, or was refused
+-- the same at the operator's path, where none waits: each that came has a seat, or was refused
 pub record IsQuietRound (calls calls_then : Option (List ConnectionCall)) (heard found : Bool)
     : Type 0 where
   pub more : List ConnectionCall

@@ -13,14 +13,14 @@ intake_room = line_limit
 abbrev pub lying : List ℕ → ℕ → ℕ → List ℕ
 lying room begin «end» = drop begin (take «end» room)
 
--- where the bytes lie in their room, and how many at their front have no end of a line
+-- where the bytes are in their room, and how many at their front have no end of a line
 pub record LieInOrder (room : List ℕ) (begin «end» seen : ℕ) : Type 0 where
   pub size : length room ≡ intake_room
   pub within : «end» ≤ intake_room
   pub order : begin + seen ≤ «end»
   pub unended : has_line (take seen (lying room begin «end»)) ≡ false
 
--- the first line has so many bytes, without its end
+-- the first line has that many bytes, without its end
 pub record IsFirstLine (bytes : List ℕ) (n : ℕ) : Type 0 where
   pub within : n < length bytes
   pub some : has_line bytes ≡ true

@@ -15,17 +15,17 @@ abbrev pub has_line : List ℕ → Bool
 has_line [] = false
 has_line (byte ∷ bytes) = byte == line_end || has_line bytes
 
--- what stands before the first end of a line, or all where there is none
+-- what comes before the first end of a line, or all where there is none
 abbrev pub first_line : List ℕ → List ℕ
 first_line [] = []
 first_line (byte ∷ bytes) = if byte == line_end then [] else byte ∷ first_line bytes
 
--- what stands behind the first end of a line, or nothing where there is none
+-- what follows the first end of a line, or nothing where there is none
 abbrev pub behind_line : List ℕ → List ℕ
 behind_line [] = []
 behind_line (byte ∷ bytes) = if byte == line_end then bytes else behind_line bytes
 
--- what stands behind the last end of a line, or all where there is none
+-- what follows the last end of a line, or all where there is none
 abbrev pub rest_of : List ℕ → List ℕ
 rest_of [] = []
 rest_of (byte ∷ bytes) = if has_line (byte ∷ bytes) then rest_of bytes else byte ∷ bytes

@@ -58,7 +58,7 @@ abbrev pub NothingLeft : List ConversationState → Type 0
 NothingLeft seats = (n : ℕ) → left_in n seats ≡ []
 
 -- Between these calls these texts were handed in: of each connection, those of its number come
--- next of all that it says, and behind them what is left to hand in of it then.
+-- next of all that it says, and after them what is left to hand in of it then.
 abbrev pub HandsInLines : (calls calls_then : Option (List ConnectionCall))
     → (seats seats_then : List ConversationState) → List Said → Type 0
 HandsInLines calls calls_then seats seats_then texts = (n : ℕ)
@@ -120,8 +120,7 @@ pub record SaysAt (calls calls_then : Option (List ConnectionCall)) (n : ℕ) (t
   pub written : HasWritten n (text ∷ []) (seat_at seats place) seat calls calls_then
   pub answer : is_ok result ≡ takes_text (lost_told (seat_at seats place).outgoing) text
 
--- a text is said to the connection of this number, if it has a seat; whoever isn't there is told
--- nothing
+-- a text is said to the connection of this number, if it has a seat; nothing is said to any other
 abbrev pub SaysToSeat : (calls calls_then : Option (List ConnectionCall)) → Bool → ℕ
     → (text : List ℕ) → (seats seats_then : List ConversationState)
     → Result (Unit {0}) LostText → Type 0

@@ -1,17 +1,18 @@
--- What the other side is told over a run of what waits to go out.
+-- What the other side gets over a run of what waits to go out.
 use Rattle.std.specs.Prelude.{◌≡◌, ℕ, ◌<◌, ◌≤◌, ◌++◌, List, [], ◌∷◌, length, take, drop}
 use Rattle.std.specs.List.{flat_map}
 use Rattle.trdp_lines.specs.Outgoings.{OutgoingState, no_outgoing, lost_line, lost_told}
 use Rattle.trdp_lines.specs.Outgoings.{with_text}
 
--- one step, as `push`, `tell_lost` and `flush` do it: a text is pushed, what was lost is told
--- alone, or the other side takes so many bytes
+-- one step, as `push`, `tell_lost` and `flush` do it: a text is pushed, what was lost is reported
+-- alone, or the other side takes that many bytes
 pub data OutgoingStep : Type 0 where
   Pushed : (text : List ℕ) → OutgoingStep
   Told : OutgoingStep
   Took : (n : ℕ) → OutgoingStep
 
--- one piece of what goes out: a whole text, or the line in the place of so many that were dropped
+-- one piece of what goes out: a whole text, or the line in the place of those that were dropped,
+-- with their number
 pub data Piece : Type 0 where
   Whole : (text : List ℕ) → Piece
   Dropped : (count : ℕ) → Piece
@@ -36,7 +37,7 @@ abbrev pub taken : OutgoingState → List OutgoingStep → List ℕ
 taken state [] = []
 taken state (step ∷ steps) = taken_in state step ++ taken (after_step state step) steps
 
--- all that goes out in these steps, and what waits behind them
+-- all that goes out in these steps, and what waits after them
 abbrev pub gone_and_waiting : OutgoingState → List OutgoingStep → List ℕ
 gone_and_waiting state steps = taken state steps ++ (after_steps state steps).waiting
 
@@ -56,8 +57,8 @@ bytes_of_piece (Dropped count) = lost_line count
 abbrev pub bytes_of_pieces : List Piece → List ℕ
 bytes_of_pieces pieces = flat_map bytes_of_piece pieces
 
--- these pieces are these texts in order: each stands whole, or it is one of those that a line says
--- were dropped in its place, or one of so many that were dropped behind all pieces
+-- these pieces are these texts in order: each is there whole, or it is one of those that a line
+-- says were dropped in its place, or one of the given number that were dropped after all pieces
 abbrev pub StandFor : List Piece → ℕ → List (List ℕ) → Type 0
 StandFor [] lost texts = length texts ≡ lost
 StandFor (Whole text ∷ pieces) lost [] = ⊥
@@ -66,7 +67,7 @@ StandFor (Whole text ∷ pieces) lost (first ∷ texts) =
 StandFor (Dropped count ∷ pieces) lost texts =
     (0 < count) × (count ≤ length texts) × StandFor pieces lost (drop count texts)
 
--- what goes out is pieces, which stand for the texts that were pushed
+-- what goes out is pieces, which represent the texts that were pushed
 pub record GoesWhole (steps : List OutgoingStep) : Type 0 where
   pub pieces : List Piece
   pub bytes : gone_and_waiting no_outgoing steps ≡ bytes_of_pieces pieces

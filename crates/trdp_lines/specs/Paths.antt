@@ -15,9 +15,9 @@ use Rattle.trdp_lines.specs.Said.{applications_say, lives, reset_line}
 abbrev pub last_number : ℕ
 last_number = 281474976710655
 
--- the connections of a path; the one whose lines are handed in, the one that waits behind it,
--- unread, until that has said whether it lives, and how many came; and whether something was heard
--- there, at the takes since that was asked the last time
+-- The connections of a path: the one whose lines are handed in, the one that waits after it,
+-- unread until it is known whether the first lives, and how many came. `heard` is whether
+-- something was heard at the takes since that was asked the last time.
 pub record PathState (C : Type 0) : Type 0 where
   pub connections : C
   pub speaker : ConversationState
@@ -30,8 +30,8 @@ abbrev pub IsUnreadFrom : ℕ → List ConnectionCall → Type 0
 IsUnreadFrom bound calls = (n : ℕ) → bound ≤ n
     → (bytes_from n calls ≡ []) × (has_ended n calls ≡ false)
 
--- the bytes of a connection are whole lines that were handed in, and behind them those that are
--- left; it has spoken if there were such lines, and what is known of its end is what was told
+-- the bytes of a connection are whole lines that were handed in, and after them those that are
+-- left; it has spoken if there were such lines, and what is known of its end is what was reported
 pub record IsHeard (calls : List ConnectionCall) (n : ℕ) (c : ConversationState) : Type 0 where
   pub before : List ℕ
   pub bytes : bytes_from n calls ≡ before ++ c.bytes
@@ -43,7 +43,7 @@ pub record IsHeard (calls : List ConnectionCall) (n : ℕ) (c : ConversationStat
 abbrev pub ArePast : List ConnectionCall → List ℕ → Type 0
 ArePast calls ns = All (λ n. lives calls n ≡ false) ns
 
--- this one speaks: those that came before it have lower numbers and don't live, those behind it
+-- this one speaks: those that came before it have lower numbers and don't live, those after it
 -- have higher ones, and from these nothing was read
 pub record IsSpeaker (calls : List ConnectionCall) (n : ℕ) (c : ConversationState) (came : ℕ)
     : Type 0 where
@@ -57,7 +57,7 @@ pub record IsSpeaker (calls : List ConnectionCall) (n : ℕ) (c : ConversationSt
   pub heard : IsHeard calls n c
   pub within : n ≤ came
 
--- this one came last, behind the one that speaks
+-- this one came last, after the one that speaks
 pub record IsNext (calls : List ConnectionCall) (n next came : ℕ) : Type 0 where
   pub earlier : List ℕ
   pub connections : connections_in calls ≡ earlier ++ next ∷ []
@@ -69,7 +69,7 @@ pub record IsNext (calls : List ConnectionCall) (n next came : ℕ) : Type 0 whe
 abbrev pub HaveCome : ℕ → List ConnectionCall → Type 0
 HaveCome came calls = All (λ m. m ≤ came) (connections_in calls)
 
--- what is known of a path's connections is what these calls told
+-- what is known of a path's connections is what these calls reported
 abbrev pub IsTrueOf : List ConnectionCall → Option ℕ → ConversationState → (waiting : Option ℕ)
     → (came : ℕ) → Type 0
 IsTrueOf calls None c None came =
@@ -79,7 +79,7 @@ IsTrueOf calls (Some n) c None came = HaveCome came calls × IsSpeaker calls n c
 IsTrueOf calls (Some n) c (Some next) came =
     HaveCome came calls × IsSpeaker calls n c came × IsNext calls n next came
 
--- the same of calls that may not be told
+-- the same of calls that may not be reported
 abbrev pub IsTrueIfTold : Option (List ConnectionCall) → ConversationState → Option ℕ → ℕ
     → Type 0
 IsTrueIfTold None c waiting came = Unit {0}
@@ -123,7 +123,7 @@ HandsEnd n spoke room None room_then = spoke ≡ false
 HandsEnd n spoke room (Some found) room_then =
     (spoke ≡ true) × (found.0 ≡ n) × (take found.1 room_then ≡ take room reset_line)
 
--- a text is said to the one that speaks under this number; whoever isn't there is told nothing
+-- a text is said to the one that speaks, if it has this number; nothing is said to any other
 abbrev pub SaysTo : {C : Type 0} → (calls calls_then : Option (List ConnectionCall)) → Bool → ℕ
     → (text : List ℕ) → (old new : PathState C) → Result (Unit {0}) LostText → Type 0
 SaysTo calls calls_then true n text old new result =

@@ -73,7 +73,7 @@ said_by n lines = map (λ line. (n, line)) lines
 abbrev pub lines_of : List ConnectionCall → ℕ → List Said
 lines_of calls n = said_by n (lines_in (bytes_from n calls))
 
--- the line that stands for the end of an application
+-- the line that is handed in for the end of an application
 abbrev pub reset_line : List ℕ
 reset_line = codes "reset"
 
@@ -91,7 +91,7 @@ application_says calls n =
 abbrev pub lives : List ConnectionCall → ℕ → Bool
 lives calls n = has_line (bytes_from n calls) && not (is_over n calls)
 
--- what applications among these connections say, one after another; behind one that lives nothing
+-- what applications among these connections say, one after another; after one that lives nothing
 -- is heard
 abbrev pub said_in_turn : List ConnectionCall → List ℕ → List Said
 said_in_turn calls [] = []
@@ -103,7 +103,8 @@ abbrev pub applications_say : List ConnectionCall → List Said
 applications_say calls = said_in_turn calls (connections_in calls)
 
 -- Between these calls some texts were handed in: of all that is said, whatever was handed in
--- before, these come next, and behind them what is left to hand in then. It is known of what tells.
+-- before, these come next, and after them what is left to hand in then. It is known only where the
+-- calls are reported.
 abbrev pub HandsIn : (List ConnectionCall → List Said) → (old new : Option (List ConnectionCall))
     → (left left_then handed_in : List Said) → Type 0
 HandsIn says old None left left_then handed_in = Unit {0}

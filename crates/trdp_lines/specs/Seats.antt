@@ -13,7 +13,7 @@ abbrev pub seats_of : ℕ → List ConversationState → ℕ
 seats_of n [] = 0
 seats_of n (c ∷ seats) = (if is_of n c then 1 else 0) + seats_of n seats
 
--- what a seat knows of its connection, if it has one, is what these calls told
+-- what a seat knows of its connection, if it has one, is what these calls reported
 abbrev pub IsHeardIf : List ConnectionCall → Option ℕ → ConversationState → Type 0
 IsHeardIf calls None c = Unit {0}
 IsHeardIf calls (Some n) c = IsHeard calls n c
@@ -28,14 +28,14 @@ pub record AreSeated (seats : List ConversationState) (came : ℕ) : Type 0 wher
   pub once : (n : ℕ) → seats_of n seats ≤ 1
   pub below : (n : ℕ) → came < n → seats_of n seats ≡ 0
 
--- what is known of the connections at these seats is what these calls told, and from those that
--- didn't come yet nothing was read
+-- what is known of the connections at these seats is what these calls reported, and nothing was
+-- read from those that didn't come yet
 pub record AreTrueOf (calls : List ConnectionCall) (seats : List ConversationState) (came : ℕ)
     : Type 0 where
   pub unread : IsUnreadFrom (came + 1) calls
   pub heard : AreHeard calls seats
 
--- the same of calls that may not be told
+-- the same of calls that may not be reported
 abbrev pub AreTrueIfTold : Option (List ConnectionCall) → List ConversationState → ℕ → Type 0
 AreTrueIfTold None seats came = Unit {0}
 AreTrueIfTold (Some calls) seats came = AreTrueOf calls seats came
@@ -67,7 +67,7 @@ pub record IsUnheard (calls calls_then : List ConnectionCall) (n : ℕ) : Type 0
   pub bytes : bytes_from n calls_then ≡ bytes_from n calls
   pub ended : has_ended n calls_then ≡ has_ended n calls
 
--- what a seat knows of its connection stays true, and so many more of its lines were handed in
+-- what a seat knows of its connection stays true, and these more of its lines were handed in
 pub record StaysHeard (n : ℕ) (calls calls_then : List ConnectionCall)
     (old new : ConversationState) (lines : List (List ℕ)) (was : IsHeard calls n old)
     : Type 0 where
@@ -84,7 +84,7 @@ pub record HasTurn (n : ℕ) (calls calls_then : List ConnectionCall)
   pub others : (k : ℕ) → k ≢ n → IsUnheard calls calls_then k
   pub own : (was : IsHeard calls n old) → StaysHeard n calls calls_then old new lines was
 
--- the same of calls that may not be told
+-- the same of calls that may not be reported
 abbrev pub HasTurnIfTold : (n : ℕ) → (calls calls_then : Option (List ConnectionCall))
     → (old new : ConversationState) → (lines : List (List ℕ)) → Type 0
 HasTurnIfTold n calls None old new lines = Unit {0}
@@ -107,7 +107,7 @@ HandsInIf n calls calls_then old new room None room_then =
 HandsInIf n calls calls_then old new room (Some count) room_then =
     HandsInOne n calls calls_then old new room count room_then
 
--- the connection of this number is told that there is no seat for it, and closed
+-- the line `busy` is written to the connection of this number once, and it is closed
 pub record IsRefused (n : ℕ) (calls calls_then : Option (List ConnectionCall)) : Type 0 where
   pub writing : Writing
   pub busy : writing.bytes ≡ codes "busy\n"
@@ -142,7 +142,7 @@ pub record GoesOn (calls calls_then : List ConnectionCall)
   pub over : (n : ℕ) → has_seat n seats ≡ true → has_seat n seats_then ≡ false
       → is_over n calls_then ≡ true
 
--- the same of calls that may not be told
+-- the same of calls that may not be reported
 abbrev pub GoesOnIfTold : (calls calls_then : Option (List ConnectionCall))
     → (seats seats_then : List ConversationState) → Type 0
 GoesOnIfTold calls None seats seats_then = Unit {0}
@@ -150,7 +150,7 @@ GoesOnIfTold None (Some calls_then) seats seats_then = ⊥
 GoesOnIfTold (Some calls) (Some calls_then) seats seats_then =
     GoesOn calls calls_then seats seats_then
 
--- who has a seat keeps it
+-- each that has a seat keeps it
 abbrev pub KeepSeats : (seats seats_then : List ConversationState) → Type 0
 KeepSeats seats seats_then =
     (n : ℕ) → has_seat n seats ≡ true → has_seat n seats_then ≡ true

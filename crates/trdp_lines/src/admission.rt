@@ -1,4 +1,4 @@
-//! What is the same at both paths where a connection comes.
+//! What both paths have in common where a connection comes.
 
 ghost use Rattle.std.specs.Prelude.{◌≡◌};
 ghost use Rattle.trdp_lines.specs.Seats.{IsRefused};
@@ -8,10 +8,10 @@ use crate::connections::Connections;
 /// The last number that a connection may have: what 48 bits can say.
 pub(crate) const LAST_NUMBER: u64 = 281_474_976_710_655;
 
-/// What a connection is told for which there is no room.
+/// The line for a connection for which there is no room.
 const BUSY: &[u8] = b"busy\n";
 
-/// Tells the connection of that number that there is no room for it, and closes it.
+/// Writes to the connection of that number that there is no room for it, and closes it.
 pub(crate) fn refuse<C: Connections>(connections: &mut C, number: u64)
     ensures refused { IsRefused number (C.calls connections.old) (C.calls connections.new) }
     ensures kept { C.file_number connections.new ≡ C.file_number connections.old }

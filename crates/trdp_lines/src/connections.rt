@@ -6,10 +6,10 @@ ghost use Rattle.trdp_lines.specs.Connections.{reading_of, writing_of, came_coun
 ghost use Rattle.trdp_lines.specs.Connections.{has_come};
 ghost use Rattle.trdp_lines.specs.Connections.{Accepts, Reads, Writes, Closes};
 
-/// What a read comes to.
+/// The result of a read.
 #[derive(Clone, Copy, Debug, PartialEq, Eq)]
 pub enum Came {
-    /// So many bytes came, at least one.
+    /// That many bytes came, at least one.
     Bytes(usize),
     /// No byte is there now.
     Nothing,
@@ -17,10 +17,10 @@ pub enum Came {
     Ended,
 }
 
-/// What a write comes to.
+/// The result of a write.
 #[derive(Clone, Copy, Debug, PartialEq, Eq)]
 pub enum Went {
-    /// So many bytes went, at least one.
+    /// That many bytes went, at least one.
     Bytes(usize),
     /// No byte goes now.
     Nothing,
@@ -40,19 +40,19 @@ pub enum Accepted {
 }
 
 /// The connections that come in at a path: streams of bytes, each with a number that it gets when
-/// it is accepted, and by which it is called until it is closed. No call waits. They may tell what
-/// was asked of them.
+/// it is accepted, and by which it is called until it is closed. No call waits. They may report
+/// what was asked of them.
 pub trait Connections {
     ghost use Rattle.std.specs.Prelude.{ℕ, List, Option};
     ghost use Rattle.trdp_lines.specs.Connections.{ConnectionCall};
 
-    /// What was asked of them, in order, with the answers; none where these don't tell.
+    /// What was asked of them, in order, with the answers; none where these report nothing.
     ghost calls: { Self → Option (List ConnectionCall) };
 
     /// The number of the path's file, which no call changes.
     ghost file_number: { Self → ℕ };
 
-    /// Accepts the next connection, if one is there, under a number that none had before.
+    /// Accepts the next connection, if one is there, with a number that none had before.
     fn accept(&mut self, number: u64) -> Accepted
         ensures told { TellsMore (calls self.old) (calls self.new) (Accepts number result ∷ []) }
         ensures kept { file_number self.new ≡ file_number self.old };
@@ -65,8 +65,8 @@ pub trait Connections {
             (Reads number (reading_of result (length room.new) room.new) ∷ []) }
         ensures kept { file_number self.new ≡ file_number self.old };
 
-    /// Writes once to a connection: the other side takes a front of the bytes, of which there is
-    /// one at least.
+    /// Writes once to a connection: the other side takes a front of the bytes, at least one, or
+    /// none of them.
     fn write(&mut self, number: u64, bytes: &[u8]) -> Went
         requires { 0 < length bytes.now }
         ensures count { WentWithin (length bytes.now) result }

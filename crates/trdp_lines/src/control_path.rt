@@ -11,7 +11,7 @@ use crate::path_fault::{AcceptFault, LostText};
 use std::alloc::Global;
 use std::marker::Model;
 
-/// What the wire hands in of its own where an application has ended.
+/// The line that is handed in where an application has ended.
 const RESET: &[u8] = b"reset";
 
 /// The connections at a path, of which one is the application: from its first line on until it
@@ -22,10 +22,10 @@ pub struct ControlPath<C: Connections> {
     connections: C,
     /// The one whose lines are handed in.
     speaker: Conversation,
-    /// The number of the one that came behind it, which isn't read from before that has said
-    /// whether it lives; None where none did.
+    /// The number of the one that came after the speaker, unread until it is known whether the
+    /// speaker lives; None where none waits.
     waiting: Option<u64>,
-    /// How many connections came.
+    /// How many connections came, which is the number of the latest.
     came: u64,
     /// Whether something was heard at a take since this was asked the last time.
     heard: bool,
@@ -61,8 +61,8 @@ impl<C: Connections> ControlPath<C> {
     ghost use Rattle.trdp_lines.specs.Paths.{HandsInNext, IsReadyIf, SaysTo, left_at, speaks};
     ghost use Rattle.trdp_lines.specs.Said.{HandsIn, applications_say};
 
-    /// The connections at a path, of which none was accepted yet. All memory that they ever need is
-    /// taken here.
+    /// The connections at a path, of which none was accepted yet. All memory that they ever need
+    /// is allocated here.
     ///
     /// # Errors
     /// The connections come back where there is no memory.
@@ -93,8 +93,8 @@ impl<C: Connections> ControlPath<C> {
         &self.connections
     }
 
-    /// Whether the connection of that number is the one that speaks. One that was handed in a line
-    /// of speaks no more from its end on, which is handed in behind its last line.
+    /// Whether the connection of that number is the one that speaks. One of which a line was
+    /// handed in speaks no more from its end on, which is handed in after its last line.
     pub fn speaks(&self, number: u64) -> bool
         ensures { result ≡ speaks self.now.speaker.number number }
     {
@@ -112,11 +112,11 @@ impl<C: Connections> ControlPath<C> {
         heard
     }
 
-    /// Hands in the next line of the application without its end, or the line `reset` behind its
-    /// last one where it has ended: it is put at the front of the room, cut to it, and the answer
-    /// is the number of the connection and how many bytes it has there. Where none is there all is
-    /// handed in that came. It makes one read at most, accepts one connection at most, and has the
-    /// application take what waits for it. Where nothing is heard at it, neither a connection nor
+    /// Hands in the next line of the application without its end, or the line `reset` after its
+    /// last one where it has ended. It is put at the front of the room, cut to it; the result is
+    /// the number of the connection and how many bytes the line has there. None says that all that
+    /// came is handed in. It makes one read at most, accepts one connection at most, and writes to
+    /// the application what waits for it. Where nothing is heard at it, neither a connection nor
     /// anything of the application came.
     ///
     /// # Errors
@@ -148,7 +148,7 @@ impl<C: Connections> ControlPath<C> {
             self.new.speaker.number }
         ensures kept { C.file_number self.new.connections ≡ C.file_number self.old.connections }
     {
-        // One that waits is decided in this take, or speaks from then on: more may be behind it.
+        // One that waits is decided in this take, or speaks from then on: more may come after it.
         self.heard |= self.waiting.is_some();
         self.flush();
         if let Some(found) = self.next_text(room) {
@@ -170,11 +170,11 @@ impl<C: Connections> ControlPath<C> {
     }
 
     /// Says a text to the connection of that number, if it is the one that speaks: it waits until
-    /// the other side takes it. Whoever has ended is told nothing.
+    /// the other side takes it. To any other it says nothing.
     ///
     /// # Errors
-    /// [`LostText`] where it finds no room behind what waits already: it is dropped whole, and the
-    /// other side is told in its place, by a line `lost N`, how many were.
+    /// [`LostText`] where it finds no room after what waits already: it is dropped whole. A line
+    /// `lost N` says in its place how many were, as soon as it finds room.
     pub fn give(&mut self, number: u64, text: &[u8]) -> Result<(), LostText>
         ensures says { SaysTo (C.calls self.old.connections) (C.calls self.new.connections)
             (speaks self.old.speaker.number number) number text.now self.old self.new result }
@@ -197,7 +197,7 @@ impl<C: Connections> ControlPath<C> {
         }
     }
 
-    /// Has the one that speaks take what waits for it.
+    /// Writes to the one that speaks what waits for it.
     fn flush(&mut self)
         ensures left { left_at self.new ≡ left_at self.old }
         ensures hands_in { HandsIn applications_say
@@ -222,7 +222,7 @@ impl<C: Connections> ControlPath<C> {
     }
 
     /// Hands in what is left, without a read. Where a connection is over and all of it handed in,
-    /// the one that waits behind it speaks from then on.
+    /// the one that waits speaks from then on.
     fn next_text(&mut self, room: &mut [u8]) -> Option<(u64, usize)>
         ensures within { IfSome result (λ found. found.1 ≤ length room.new) }
         ensures length { length room.new ≡ length room.old }
@@ -338,8 +338,8 @@ impl<C: Connections> ControlPath<C> {
         }
     }
 
-    /// Beside an application that lives, the one that waits is told so, and closed. One that has
-    /// said no line gives way to it.
+    /// Beside an application that lives, the one that waits is sent `busy` and closed. One that
+    /// has said no line gives way to it.
     fn decide(&mut self, number: u64)
         requires speaks { self.old.speaker.number ≡ Some number }
         requires ready { IsReadyIf self.old.speaker.number self.old.speaker }
@@ -374,9 +374,8 @@ impl<C: Connections> ControlPath<C> {
     }
 }
 
-/// The line that stands for the end of the connection of that number, if it has spoken: it is put
-/// at the front of the room, cut to it, and the answer is the number and how many bytes it has
-/// there.
+/// The line for the end of the connection of that number, if it has spoken: it is put at the front
+/// of the room, cut to it, and the result is the number and how many bytes it has there.
 fn end_line(number: u64, spoke: bool, room: &mut [u8]) -> Option<(u64, usize)>
     ensures within { IfSome result (λ found. found.1 ≤ length room.new) }
     ensures length { length room.new ≡ length room.old }

@@ -1,4 +1,4 @@
-//! A connection: what it says, and what waits to be said to it.
+//! One connection: what it says, and what waits to be said to it.
 
 ghost use Rattle.std.specs.Prelude.{◌≡◌, ◌<◌, ◌≤◌, [], ◌∷◌, length, take, true, false, not};
 ghost use Rattle.std.specs.Prelude.{Some, None, IfOk, IfSome, IfNone};
@@ -89,8 +89,8 @@ impl Conversation {
         self.ended = false;
     }
 
-    /// Hands in its next line without the end, cut to the room that is given, if a whole one is
-    /// there. Answers how many bytes it has there.
+    /// Hands in its next line without the end, cut to the room, if a whole one is there. Returns
+    /// how many bytes it has in the room.
     pub(crate) fn next_line(&mut self, room: &mut [u8]) -> Option<usize>
         ensures some { IfSome result (λ _. has_line self.old.bytes ≡ true) }
         ensures within { IfSome result (λ count. count ≤ length room.new) }
@@ -132,7 +132,7 @@ impl Conversation {
     }
 
     /// Says a text to its connection, which has this number: it waits until the other side takes
-    /// it, or it is dropped whole and counted. Answers whether it stands there.
+    /// it, or it is dropped whole and counted. Returns whether it waits.
     pub(crate) fn say<C: Connections>(&mut self, to: &mut C, number: u64, text: &[u8]) -> bool
         ensures answer { result ≡ takes_text (lost_told self.old.outgoing) text.now }
         ensures said { HasWritten number (text.now ∷ []) self.old self.new
@@ -144,7 +144,8 @@ impl Conversation {
         stands
     }
 
-    /// Tells its connection, which has this number, what was dropped, and writes what waits.
+    /// Adds the line that reports what was dropped, and writes what waits to its connection, which
+    /// has this number.
     pub(crate) fn flush<C: Connections>(&mut self, to: &mut C, number: u64)
         ensures written { HasWritten number [] self.old self.new (C.calls to.old) (C.calls to.new) }
         ensures kept { C.file_number to.new ≡ C.file_number to.old }
@@ -153,9 +154,9 @@ impl Conversation {
         self.write(to, number);
     }
 
-    /// Writes what waits, and where that made room for the line that tells what was dropped, that
-    /// line too. So where something is left to be told, something waits, and the system tells when
-    /// the other side can take it.
+    /// Writes what waits, and where that made room for the line that reports what was dropped,
+    /// that line too. So where something is left to be reported, something waits, and the system
+    /// reports when the other side can take it.
     fn write<C: Connections>(&mut self, to: &mut C, number: u64)
         ensures written { HasWritten number [] self.old self.new (C.calls to.old) (C.calls to.new) }
         ensures kept { C.file_number to.new ≡ C.file_number to.old }

@@ -19,11 +19,11 @@ const LINE_ROOM: usize = 140_000;
 /// The bytes of a connection that were read and not handed in.
 #[derive(Drop)]
 pub(crate) struct Intake {
-    /// Where they lie.
+    /// The room that contains them.
     room: Vec<u8>,
-    /// Where they begin.
+    /// The index in the room at which they begin.
     begin: usize,
-    /// Where they end.
+    /// The index in the room after the last of them.
     end: usize,
     /// How many of them, at their front, are known to have no end of a line among them.
     seen: usize,
@@ -65,7 +65,7 @@ impl Intake {
         let _ = &self.room;
     }
 
-    /// Leaves all bytes out.
+    /// Drops all bytes.
     pub(crate) fn clear(&mut self)
         ensures { self.new ≡ [] }
     {
@@ -81,8 +81,8 @@ impl Intake {
         self.end - self.begin >= LINE_ROOM
     }
 
-    /// Reads once from the connection of that number, behind the bytes and into all the room that
-    /// is left.
+    /// Reads once from the connection of that number, to the end of the bytes and into all the
+    /// room that is left.
     pub(crate) fn fill<C: Connections>(&mut self, from: &mut C, number: u64) -> Came
         requires { length self.old < intake_room }
         ensures count { CameWithin (intake_room - length self.old) result }
@@ -99,8 +99,8 @@ impl Intake {
         came
     }
 
-    /// Hands in the next line without its end, cut to the room that is given, if a whole one is
-    /// there. Answers how many bytes it has there.
+    /// Hands in the next line without its end, cut to the room, if a whole one is there. Returns
+    /// how many bytes it has in the room.
     pub(crate) fn next_line(&mut self, to: &mut [u8]) -> Option<usize>
         ensures some { IfSome result (λ _. has_line self.old ≡ true) }
         ensures within { IfSome result (λ count. count ≤ length to.new) }
@@ -130,7 +130,7 @@ impl Intake {
     }
 }
 
-/// How many bytes the first line has, where so many at the front have no end of a line.
+/// How many bytes the first line has, where `seen` bytes at the front have no end of a line.
 fn first_line_of(bytes: &[u8], seen: usize) -> Option<usize>
     requires within { seen ≤ length bytes.now }
     requires unended { has_line (take seen bytes.now) ≡ false }
@@ -152,7 +152,7 @@ fn to_front(room: &mut [u8], begin: usize, end: usize)
     }
 }
 
-/// Moves the bytes between two places to the room's front, and reads once behind them.
+/// Moves the bytes between two places to the room's front, and reads once to their end.
 fn refill<C: Connections>(
     from: &mut C,
     number: u64,
@@ -176,7 +176,7 @@ fn refill<C: Connections>(
     from.read(number, free)
 }
 
-/// Copies a line to a room's front, cut to it. Answers how many bytes it has there.
+/// Copies a line to a room's front, cut to it. Returns how many bytes it has there.
 pub(crate) fn copy_front(line: &[u8], to: &mut [u8]) -> usize
     ensures within { result ≤ length to.new }
     ensures line { take result to.new ≡ take (length to.old) line.now }

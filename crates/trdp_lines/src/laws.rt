@@ -1,5 +1,4 @@
-//! What follows from the definitions, for callers that take lines and give texts one after
-//! another.
+//! What follows from the definitions, for callers that get lines and say texts one after another.
 
 ghost use Rattle.std.specs.Prelude.{◌≡◌, ◌≤◌, ℕ, ◌++◌, List, [], ◌∷◌, length, true, false, All};
 ghost use Rattle.trdp_lines.specs.IntakeRuns.{IntakeStep, all_bytes, lines_handed_in};
@@ -9,7 +8,7 @@ ghost use Rattle.trdp_lines.specs.Lines.{rest_of, with_ends, IsUnended};
 ghost use Rattle.trdp_lines.specs.Outgoings.{lost_limit};
 ghost use Rattle.trdp_lines.specs.OutgoingRuns.{OutgoingStep, GoesWhole, texts_of};
 
-/// Bytes are their whole lines, each with its end, and the rest behind the last end. No line has
+/// Bytes are their whole lines, each with its end, and the rest after the last end. No line has
 /// an end within, nor has the rest: there is one way only to read lines in them.
 pub fn bytes_are_lines_and_rest()
     ensures bytes { (bytes : List ℕ) → bytes ≡ with_ends (lines_in bytes) ++ rest_of bytes }
@@ -18,7 +17,7 @@ pub fn bytes_are_lines_and_rest()
 {}
 
 /// Whole lines come one by one: where the end of a line is there, the first line comes first, and
-/// the lines behind it come next. Where none is there, there is no whole line.
+/// the lines after it come next. Where none is there, there is no whole line.
 pub fn lines_come_one_by_one()
     ensures split { (bytes : List ℕ) → has_line bytes ≡ true
         → bytes ≡ first_line bytes ++ line_end ∷ behind_line bytes }
@@ -28,8 +27,8 @@ pub fn lines_come_one_by_one()
     ensures none { (bytes : List ℕ) → has_line bytes ≡ false → lines_in bytes ≡ [] }
 {}
 
-/// Whole lines stay as they are when more bytes come: what follows are the lines of what stands
-/// behind the last end of a line, with the bytes behind it.
+/// Whole lines stay as they are when more bytes come: what follows are the lines of what comes
+/// after the last end of a line, with the bytes after it.
 pub fn whole_lines_stay()
     ensures { (bytes more : List ℕ)
         → lines_in (bytes ++ more) ≡ lines_in bytes ++ lines_in (rest_of bytes ++ more) }
@@ -43,8 +42,8 @@ pub fn each_line_is_handed_in()
 {}
 
 /// Whatever the other side takes and when, it gets the texts that were pushed, each whole, in
-/// their order; in the place of some that were dropped it gets a line that says how many. No more
-/// texts are pushed than can be counted.
+/// their order; in the place of some that were dropped it gets a line that says how many. This
+/// holds where no more texts are pushed than can be counted.
 pub fn texts_go_whole()
     ensures { (steps : List OutgoingStep) → length (texts_of steps) ≤ lost_limit
         → GoesWhole steps }

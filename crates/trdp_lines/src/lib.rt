@@ -1,6 +1,10 @@
-//! The connections that come in at the path of a control port ([`ControlPath`]): one of them is
-//! the application, from its first line on until it ends. What it says is handed in line by line,
-//! and its end as the line `reset`.
+//! The connections at the path of a control port ([`ControlPath`]) and at the path of the
+//! operator's port ([`OperatorPath`]), as lines of text in and out.
+//!
+//! At a control port one connection is the application, from its first line on until it ends. What
+//! it says is handed in line by line, and its end as the line `reset`. The operator's path has up
+//! to four connections at once, whose ends hand in nothing. The connections are anything that
+//! implements [`Connections`]; `trdp_controls` has those of the operating system.
 //!
 //! ```text
 //! let mut path = ControlPath::new(alloc, connections)?;
@@ -15,19 +19,19 @@
 //! }
 //! ```
 //!
-//! The operator's path ([`OperatorPath`]) has four connections at once, whose ends are no matter.
+//! A connection has two halves: the bytes that came in and aren't handed in yet, and those that
+//! wait to go out. Both allocate all memory that they ever need when they are made.
 //!
-//! A path has two halves for a connection: what came in and isn't handed in yet, and what waits to
-//! go out. They take all memory that they ever need when they are made. The connections are
-//! whatever implements [`Connections`]. Where those tell what was asked of them, all that is handed
-//! in is what they told that applications said: each line whole, once and in order, and the end of
-//! each behind its last line and before any line of a later one.
-//!
-//! No contract can say that memory is there for them, nor what the other side sends and takes, nor
-//! that a search for the end of a line begins where the one before it ended. Each that comes has
-//! the next number, which no later one gets. A take that finds nothing has asked for the next
+//! Proved, where the connections report what was asked of them: what is handed in is what
+//! applications said by these reports, each line once and in order, cut to the room. The end of
+//! each comes after its last line and before any line of a later one. Each connection that comes
+//! has the next number, which no later one gets. A take that finds nothing has asked for the next
 //! connection, unless one waits or the last number was given, and read from those that speak.
-//! Where nothing is heard at it, no call of the connections brought anything, and nobody waited.
+//! Where nothing is heard at it, no call of the connections brought anything, and none waited.
+//!
+//! Connections that report nothing, such as the system's, have these clauses of their numbers
+//! alone. No contract says what the other side sends and takes, nor that a search for the end of a
+//! line begins where the one before it ended.
 #![tactic(auto)]
 
 mod admission;

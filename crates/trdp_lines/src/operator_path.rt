@@ -16,9 +16,9 @@ pub struct OperatorPath<C: Connections> {
     connections: C,
     /// The seats, each of a connection, or free.
     seats: Vec<Conversation>,
-    /// How many connections came.
+    /// How many connections came, which is the number of the latest.
     came: u64,
-    /// Behind which seat the next take begins: how many stand before the first that it asks.
+    /// Where the next take begins: how many seats come before the first that it asks.
     next: usize,
     /// Whether something was heard at a take since this was asked the last time.
     heard: bool,
@@ -58,7 +58,7 @@ impl<C: Connections> OperatorPath<C> {
     ghost use Rattle.trdp_lines.specs.Seats.{StaySilent};
 
     /// The connections at a path, of which none was accepted yet. All memory that they ever need is
-    /// taken here.
+    /// allocated here.
     ///
     /// # Errors
     /// The connections come back where there is no memory.
@@ -98,11 +98,11 @@ impl<C: Connections> OperatorPath<C> {
         heard
     }
 
-    /// Hands in the next line of a connection without its end: it is put at the front of the room,
-    /// cut to it, and the answer is the number of the connection and how many bytes it has there.
-    /// Where none is there all is handed in that came. It accepts one connection at most, reads
-    /// once at most from each that has a seat, and has each that it asks take what waits for it. It
-    /// begins behind the one that was asked last. Where nothing is heard at it, neither a
+    /// Hands in the next line of a connection without its end. It is put at the front of the room,
+    /// cut to it; the result is the number of the connection and how many bytes the line has
+    /// there. None says that all that came is handed in. It accepts one connection at most, reads
+    /// once at most from each that has a seat, and writes to each that it asks what waits for it.
+    /// It begins after the one that was asked last. Where nothing is heard at it, neither a
     /// connection nor anything of one came.
     ///
     /// # Errors
@@ -143,11 +143,11 @@ impl<C: Connections> OperatorPath<C> {
     }
 
     /// Says a text to the connection of that number, if it has a seat: it waits until the other
-    /// side takes it. Whoever has ended is told nothing.
+    /// side takes it. To any other it says nothing.
     ///
     /// # Errors
-    /// [`LostText`] where it finds no room behind what waits already: it is dropped whole, and the
-    /// other side is told in its place, by a line `lost N`, how many were.
+    /// [`LostText`] where it finds no room after what waits already: it is dropped whole. A line
+    /// `lost N` says in its place how many were, as soon as it finds room.
     pub fn give(&mut self, number: u64, text: &[u8]) -> Result<(), LostText>
         ensures says { SaysToSeat (C.calls self.old.connections) (C.calls self.new.connections)
             (has_seat number self.old.seats) number text.now self.old.seats self.new.seats result }
@@ -170,7 +170,7 @@ impl<C: Connections> OperatorPath<C> {
         }
     }
 
-    /// Accepts the next connection. Where no seat is free it is told so, and closed.
+    /// Accepts the next connection. Where no seat is free it is sent `busy` and closed.
     ///
     /// # Errors
     /// [`AcceptFault`] where the system refuses it.

@@ -16,18 +16,18 @@ use trdp_base::push_number;
 /// Room for what the other side hasn't taken, in bytes.
 const OUT_ROOM: usize = 140_000;
 
-/// Room for the longest line that tells how many texts were dropped, in bytes.
+/// Room for the longest line that says how many texts were dropped, in bytes.
 const LOST_ROOM: usize = 26;
 
 /// Texts that wait until the other side of a connection takes their bytes. What finds no room is
-/// dropped whole and counted, and a line tells how many were, in their place.
+/// dropped whole and counted, and a line says how many were, in their place.
 #[derive(Drop)]
 pub(crate) struct Outgoing {
     /// The bytes that the other side hasn't taken.
     waiting: Vec<u8>,
-    /// How many texts were dropped since the latest line that told of such.
+    /// How many texts were dropped since the latest line that reported such.
     lost: u64,
-    /// Where that line is written.
+    /// Room in which that line is written.
     line: Vec<u8>,
 }
 
@@ -60,7 +60,7 @@ impl Outgoing {
         })
     }
 
-    /// Leaves all bytes out, and forgets what was dropped.
+    /// Drops all bytes, and forgets how many texts were dropped.
     pub(crate) fn clear(&mut self)
         ensures { self.new ≡ no_outgoing }
     {
@@ -75,9 +75,9 @@ impl Outgoing {
         self.waiting.is_empty()
     }
 
-    /// Puts a text behind what waits, if no text was dropped that isn't told, and there is room
-    /// for all of it; elsewhere it is dropped and counted. What was dropped before is told first,
-    /// where there is room. Answers whether the text stands there.
+    /// Puts a text after what waits, if no dropped text is unreported and there is room for all of
+    /// it; else the text is dropped and counted. What was dropped before is reported first, where
+    /// there is room. Returns whether the text waits.
     #[tactic(auto, unfolding(crate::specs::Outgoings::with_text))]
     pub(crate) fn push(&mut self, text: &[u8]) -> bool
         ensures answer { result ≡ takes_text (lost_told self.old) text.now }
@@ -93,8 +93,8 @@ impl Outgoing {
         }
     }
 
-    /// Tells how many texts were dropped, by a line behind what waits, if any was and there is
-    /// room for it. Answers whether it did.
+    /// Reports how many texts were dropped, in a line after what waits, if any was and there is
+    /// room for the line. Returns whether it did.
     #[tactic(auto, unfolding(crate::specs::Outgoings::lost_told))]
     pub(crate) fn tell_lost(&mut self) -> bool
         ensures answer { result ≡ can_tell self.old }
@@ -144,7 +144,7 @@ impl Outgoing {
         text.len() <= OUT_ROOM - self.waiting.len()
     }
 
-    /// Puts a text for which there is room behind what waits.
+    /// Puts a text for which there is room after what waits.
     fn put(&mut self, text: &[u8])
         requires { length self.old.waiting + length text.now ≤ outgoing_room }
         ensures { self.new ≡ with_bytes self.old text.now }
@@ -153,7 +153,7 @@ impl Outgoing {
     }
 }
 
-/// Writes the line that tells how many texts were dropped, in the place of what stood there.
+/// Writes the line that says how many texts were dropped, in place of what was there.
 #[tactic(auto, unfolding(crate::specs::Outgoings::lost_line))]
 fn write_lost(line: &mut Vec<u8>, lost: u64)
     requires { 26 ≤ vec_capacity line.old }
@@ -166,7 +166,7 @@ fn write_lost(line: &mut Vec<u8>, lost: u64)
     line.push_reserved(b'\n');
 }
 
-/// Drops so many bytes at the front; the others move there.
+/// Drops `count` bytes at the front; the others move there.
 fn drop_front(bytes: &mut Vec<u8>, count: usize)
     requires { count ≤ vec_len bytes.old }
     ensures items { bytes.new.items ≡ drop count bytes.old.items }

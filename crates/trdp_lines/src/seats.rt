@@ -43,7 +43,7 @@ pub(crate) fn place_of(seats: &[Conversation], number: Option<u64>) -> Option<us
 }
 
 /// Hands in the next line of a connection, which has that number. Where none is there it is read
-/// from once before, unless it is done. What waits for it is written before all.
+/// from once before, unless it is done. What waits for it is written first of all.
 pub(crate) fn hear<C: Connections>(
     seat: &mut Conversation,
     from: &mut C,

@@ -1,4 +1,4 @@
--- What a decoder answers.
+-- What a decoder returns.
 -- For `decoded`.
 -- By cases: there is no such dataset, the bytes are no value of it, or memory runs out.
 use Rattle.std.proofs.Common.{◌≡◌, true, false, ℕ, List, [], ◌∷◌, Option, Some}

@@ -1,6 +1,6 @@
--- Values that are passed by their number, since all of them take as many bytes.
+-- Values that are skipped by their number, since all of them have one length.
 -- For `skip` and `fits_dataset`, and for a law.
--- By induction on the depth: a value of a type of one length is passed by that length.
+-- By induction on the depth: a value of a type of one length is skipped by that length.
 use Rattle.std.proofs.Common.{◌≡◌, true, false, Bool, not, cond, inl, inr, ◌==◌, ◌<◌, ◌≤◌}
 use Rattle.std.proofs.Common.{◌+◌, ◌-◌, ◌*◌, ℕ, zero, suc, List, [], ◌∷◌, Option, Some}
 use Rattle.std.proofs.Common.{None, length, drop, nat_lt, refl, sym, ap, ◌∙◌, arith, le-ltb}
@@ -89,7 +89,7 @@ numbers m n f bytes =
     ∙ ap (λ (o : Option (List ℕ)). o >>= λ rest. rest_after n rest) (skipped-number m bytes)
     ∙ after-add m n bytes
 
--- how many bytes each value of a basic type takes
+-- how many bytes each value of a basic type has
 abbrev pub basic_size : Form → Option ℕ
 basic_size (Unsigned w) = Some (width_len w)
 basic_size (Signed w) = Some (width_len w)
@@ -131,7 +131,7 @@ repeated_skips read n each (suc k) bytes =
     ∙ after-add n (k * n) bytes
     ∙ ap (λ (m : ℕ). rest_after m bytes) sum
 
--- values of a basic type are passed by their number
+-- values of a basic type are skipped by their number
 pub basic_repeated : (nested : ℕ → Reader ItemModel) (form : Form) (n : ℕ)
     → basic_size form ≡ Some n → (k : ℕ) (bytes : List ℕ)
     → skipped (repeated_at (form_at nested form) k bytes) ≡ rest_after (k * n) bytes
@@ -233,7 +233,7 @@ size_by : (b : Bool) (n size : ℕ) → Some size ≡ cond b (Some n) None → (
 size_by true n size e = (refl, sym (same_Some _ _ e))
 size_by false n size e = absurd (none-some _ (sym e))
 
--- values of a dataset of one length are passed by their number
+-- values of a dataset of one length are skipped by their number
 pub dataset_skipped_whole : (registry : List DatasetModel) (depth id size : ℕ)
     → is_within registry depth id ≡ true
     → Some size ≡ fixed_size registry id → (bytes : List ℕ)
@@ -275,7 +275,7 @@ fixed_known registry id size one =
     some_fixed (is_fixed registry 4) (elements_of registry id)
     (size_by (is_fixed registry 5 id) (zero_size registry id) size one).0
 
--- bytes are a value of a dataset of one length where there are as many
+-- bytes are a value of a dataset of one length where they have that length
 pub whole_fixed : (registry : List DatasetModel) (id size : ℕ) (bytes : List ℕ)
     → IsRegistry registry
     → Some size ≡ fixed_size registry id

@@ -1,6 +1,6 @@
 -- The bytes of a number that was read.
 -- For `CodecLemmas` and `SpellingLemmas`, and for the reader of numbers.
--- By induction on the number of bytes: what stands above the lowest ones doesn't change them.
+-- By induction on the number of bytes: what is above the lowest ones doesn't change them.
 use Rattle.std.proofs.Common.{◌≡◌, ◌<◌, ◌≤◌, ◌+◌, ◌*◌, ◌/◌, ◌%◌, ◌^◌, ℕ, zero, suc, List, []}
 use Rattle.std.proofs.Common.{◌∷◌, ◌++◌, length, drop, get_or, subst, refl, sym, ap, ◌∙◌, arith}
 use Rattle.std.specs.Int.{byte_at, bytes_high_first}
@@ -17,7 +17,7 @@ byte_at-pow (suc k) x = refl
 pow_pos256 : (n : ℕ) → zero < 256 ^ n
 pow_pos256 n = let h = one-le-pow n 256 (omega arith) in omega arith
 
--- what stands above m bytes doesn't change the lowest m
+-- what is above m bytes doesn't change the lowest m
 low_bytes_of : (m q r : ℕ) → bytes_high_first m (q * 256 ^ m + r) ≡ bytes_high_first m r
 low_bytes_of zero q r = refl
 low_bytes_of (suc m) q r =

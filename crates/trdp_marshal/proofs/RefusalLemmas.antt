@@ -1,6 +1,6 @@
--- What is refused, told by what spells what.
+-- What is refused, in terms of what spells what.
 -- For `encode` and `decode`.
--- By: a fault other than want of memory is answered exactly where it is expected.
+-- By: a fault other than OutOfMemory is returned exactly where it is expected.
 use Rattle.std.proofs.Common.{◌≡◌, ◌<◌, Bool, cond, true, false, ℕ, List, Option}
 use Rattle.std.proofs.Common.{Some, None, Result, Ok, Err, length, nat_lt, refl}
 use Rattle.std.proofs.Common.{sym, ap, ◌∙◌, subst, ltb-true, lt-ltb}
@@ -43,7 +43,7 @@ answered_by (Ok x) expected fault answers e = absurd (none-some fault (sym answe
 answered_by (Err answered) expected fault answers e =
     ap Err (fault_answered fault answered expected answers e)
 
--- a fault other than want of memory is answered exactly where it is expected
+-- a fault other than OutOfMemory is returned exactly where it is expected
 answer_tells : {X : Type 0} (result : Result X MarshalFault)
     (expected : Option MarshalFault) (fault : MarshalFault) → (fault ≡ OutOfMemory → ⊥)
     → FailsAs result expected → (result ≡ Err fault) ↔ (expected ≡ Some fault)

@@ -1,6 +1,6 @@
--- One turn of each loop that passes over values.
+-- One turn of each loop that skips values.
 -- For `skip`, `read_count` and `fits_dataset`.
--- By: what is made of a value takes the same bytes as the value.
+-- By: what is made of a value has the same bytes as the value.
 use Rattle.std.proofs.Common.{◌≡◌, true, false, add-one, drop-cons, ne_eqb, eqb-true}
 use Rattle.std.proofs.Common.{Bool, cond, ◌≢◌, ◌<◌, ◌≤◌, ◌+◌, ◌-◌, ◌==◌, ◌&&◌, not}
 use Rattle.std.proofs.Common.{◌||◌, ℕ, zero, suc, List, [], ◌∷◌, Option, Some, None}
@@ -25,7 +25,7 @@ use Rattle.trdp_marshal.specs.Reading.{Reader, number_at, unsigned_at, form_at}
 use Rattle.trdp_marshal.specs.Reading.{repeated_at, list_at, element_at, entries_at}
 use Rattle.trdp_marshal.specs.Reading.{elements_at, dataset_at, count_after, skipped, whole}
 
--- what is made of a value takes the same bytes
+-- what is made of a value has the same bytes
 pub skipped-made : {A B : Type 0} (found : Option (A × List ℕ)) (f : A → B)
     → skipped (found >>= λ x. Some (f x.0, x.1)) ≡ skipped found
 skipped-made None f = refl
@@ -332,7 +332,7 @@ read_unknown registry (suc depth) id bytes e =
     sym (ap (λ (found : Option (List Element)).
     skipped (elements_at (form_at (dataset_at registry depth)) found bytes)) e)
 
--- all bytes are taken
+-- all bytes are read
 pub whole_taken : (found : Option (ItemModel × List ℕ)) (rest : List ℕ)
     → Some rest ≡ skipped found → is_some (whole found) ≡ (length rest == 0)
 whole_taken None rest e = absurd (none-some _ (sym e))

@@ -21,7 +21,7 @@ use Rattle.trdp_marshal.specs.Lengths.{measured, AppendsSpelling}
 use Rattle.trdp_marshal.specs.Faults.{has_items, FailsAs, length_fault, encode_fault}
 use Rattle.trdp_marshal.proofs.CodecLemmas.{joined_some}
 
--- what is still to be written once part of a whole spelling stands behind the start
+-- what is still to be written once part of a whole spelling follows the start
 abbrev pub Continues : Option (List ℕ) → List ℕ → Option (List ℕ) → List ℕ → Type 0
 Continues all start left now =
     (text : List ℕ) → all ≡ Some text
@@ -117,7 +117,7 @@ pub nothing_left : (left : Option (List ℕ)) → left ≡ Some []
     → (rest : List ℕ) → left ≡ Some rest → rest ≡ []
 nothing_left left e rest h = same_Some _ _ (sym h ∙ e)
 
--- what an encoder answers
+-- what an encoder returns
 pub no_dataset : (registry : List DatasetModel) (id : ℕ) (t : ItemModel)
     → has_items registry id ≡ false → encode_fault registry id t ≡ Some NoDataset
 unfolding encode_fault

@@ -1,4 +1,4 @@
--- Which fault comes.
+-- Which fault is returned.
 use Rattle.std.specs.Prelude.{◌≡◌, ◌==◌, ◌&&◌, not, Bool, ℕ, List, Option, Some, None}
 use Rattle.std.specs.Prelude.{Result, Ok, Err, is_some, if◌then◌else◌, nat_lt, length}
 use Rattle.trdp_dataset.specs.Datasets.{DatasetModel, is_known}
@@ -32,25 +32,25 @@ unfoldable pub encode_fault : List DatasetModel → ℕ → ItemModel → Option
 encode_fault registry id item =
     if has_items registry id then length_fault (spelling registry id item) else Some NoDataset
 
--- this fault where it is expected, and want of memory where none is
+-- this fault where it is expected, and OutOfMemory where none is
 abbrev pub IsMarshalFault : MarshalFault → Option MarshalFault → Type 0
 IsMarshalFault OutOfMemory expected = expected ≡ None
 IsMarshalFault fault expected = expected ≡ Some fault
 
--- a call succeeds or runs out of memory exactly where no fault is expected, and else answers the
+-- a call succeeds or runs out of memory exactly where no fault is expected, and else returns the
 -- one that is
 abbrev pub FailsAs : {X : Type 0} → Result X MarshalFault → Option MarshalFault → Type 0
 FailsAs (Ok x) expected = expected ≡ None
 FailsAs (Err fault) expected = IsMarshalFault fault expected
 
--- a part of a call that answers this fault had nothing to give, unless memory ran out
+-- a part of a call that returns this fault had nothing to return, unless memory ran out
 abbrev pub Fails : {Y : Type 0} → MarshalFault → Option Y → Type 0
 Fails NoDataset found = ⊥
 Fails Shape found = found ≡ None
 Fails TooLong found = ⊥
 Fails OutOfMemory found = Unit {0}
 
--- what a part of a call gives, seen by view, is what was there, unless memory ran out
+-- what a part of a call returns, seen by view, is what was there, unless memory ran out
 abbrev pub GivesFound : {X Y : Type 0} → (X → Y) → Result X MarshalFault → Option Y → Type 0
 GivesFound view (Ok x) found = found ≡ Some (view x)
 GivesFound view (Err fault) found = Fails fault found

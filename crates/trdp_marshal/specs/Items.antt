@@ -1,4 +1,4 @@
--- Values of datasets without where they lie in memory.
+-- Values of datasets, apart from where they are in memory.
 use Rattle.std.specs.Prelude.{ℕ, ℤ, ◌==◌, List, [], ◌∷◌, map, Option, Some, None, if◌then◌else◌}
 use Rattle.trdp_marshal.specs.declared.item.Item.{Item, fold-Item}
 use Rattle.trdp_marshal.specs.declared.item.Item.TheOpen.{Item-F}
@@ -30,7 +30,7 @@ model_step (Item-F.T48 s t) = time48 s t
 model_step (Item-F.T64 s t) = time64 s t
 model_step (Item-F.List v) = list (models_of v.items)
 
--- what an item is, without where it lies in memory
+-- what an item is, apart from where it is in memory
 abbrev pub model_of : Item → ItemModel
 model_of = fold-Item ItemModel model_step
 
@@ -47,6 +47,7 @@ told_count (time64 s t) = 0
 told_count (list ts) = 0
 
 -- how many values an array has: its size, or for size 0 what the entry before it says
+-- rule: dataset.array
 abbrev pub array_length : ℕ → ℕ → ℕ
 array_length size count = if size == 0 then count else size
 

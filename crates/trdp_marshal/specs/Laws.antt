@@ -46,7 +46,7 @@ abbrev pub FittingIsFit : Type 0
 FittingIsFit = (registry : List DatasetModel) (id : ℕ) (bytes : List ℕ) → IsBytes bytes
     → IsTrue (is_fitting_in registry id bytes) ↔ Fits registry id bytes
 
--- a dataset of one length is spelled by the lists of so many bytes, and by no others
+-- a dataset of one length is spelled by the lists of that many bytes, and by no others
 abbrev pub FixedIsLength : Type 0
 FixedIsLength = (registry : List DatasetModel) (id size : ℕ) (bytes : List ℕ) → IsRegistry registry
     → fixed_size registry id ≡ Some size → IsBytes bytes

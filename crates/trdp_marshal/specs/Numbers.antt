@@ -11,6 +11,6 @@ IsBytes bytes = (i : ℕ) → get_or bytes i 0 < 256
 abbrev pub IsNumber : ℕ → ℕ → List ℕ → Type 0
 IsNumber k n bytes = (length bytes ≡ k) × IsBytes bytes × (big_number k bytes ≡ n)
 
--- the number that k bytes show as two's complement, where n is their big-endian value
+-- the number that k bytes are as two's complement, where n is their big-endian value
 unfoldable pub signed_number : ℕ → ℕ → ℤ
 signed_number k n = if nat_lt n (256 ^ k / 2) then pos n else negsuc (256 ^ k - 1 - n)

@@ -1,4 +1,4 @@
--- The item of a dataset that stands first in bytes, and the bytes after it, computed.
+-- The item of a dataset at the front of bytes, and the bytes after it, computed.
 use Rattle.std.specs.Prelude.{ℕ, zero, suc, Bool, ◌||◌, is_some, option_map, ◌==◌, List, []}
 use Rattle.std.specs.Prelude.{◌∷◌, Option, Some, None, length, drop, nat_lt, if◌then◌else◌}
 use Rattle.byteorder.specs.Endian.{big_number}
@@ -13,11 +13,12 @@ use Rattle.trdp_marshal.specs.Items.{time64, list, none, more, told_count, array
 use Rattle.trdp_marshal.specs.Numbers.{signed_number}
 use Rattle.trdp_marshal.specs.Spelling.{◌>>=◌}
 
--- what stands first in bytes, and the bytes after it
+-- what is at the front of bytes, and the bytes after it
 abbrev pub Reader : Type 0 → Type 0
 Reader A = List ℕ → Option (A × List ℕ)
 
--- the number in the first k bytes, the highest first, if there are so many
+-- the number in the first k bytes, the highest first, if there are that many
+-- rule: dataset.packed
 unfoldable pub number_at : ℕ → Reader ℕ
 number_at k bytes =
     if nat_lt (length bytes) k then None else Some (big_number k bytes, drop k bytes)
@@ -97,6 +98,7 @@ dataset_at registry (suc depth) id bytes =
     elements_at (form_at (dataset_at registry depth)) (elements_of registry id) bytes
 
 -- the value, if no bytes are left over
+-- rule: dataset.whole
 abbrev pub whole : Option (ItemModel × List ℕ) → Option ItemModel
 whole None = None
 whole (Some (t, [])) = Some t
@@ -117,5 +119,6 @@ skipped found = option_map (λ x. x.1) found
 
 -- whether bytes are a payload of the dataset: any are of dataset 0, else they are those of some
 -- item
+-- rule: dataset.any
 abbrev pub is_fitting_in : List DatasetModel → ℕ → List ℕ → Bool
 is_fitting_in registry id bytes = (id == 0) || is_some (reading registry id bytes)

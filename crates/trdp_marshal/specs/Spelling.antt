@@ -11,7 +11,7 @@ use Rattle.trdp_dataset.specs.Datasets.{DatasetModel, elements_of}
 use Rattle.trdp_marshal.specs.Items.{ItemModel, ItemModels, unsigned, signed, time48}
 use Rattle.trdp_marshal.specs.Items.{time64, list, none, more, told_count, array_length}
 
--- what a step makes of what the one before it gave
+-- what a step makes of the result of the one before it
 infixl 10 ◌>>=◌
 abbrev pub ◌>>=◌ : {A B : Type 0} → Option A → (A → Option B) → Option B
 o >>= f = option_and_then f o
@@ -105,5 +105,6 @@ dataset_spelling registry (suc depth) id t =
     elements_spelling (form_spelling (dataset_spelling registry depth)) (elements_of registry id) t
 
 -- the bytes of an item of a dataset, which nests no deeper than 5
+-- rule: dataset.packed
 unfoldable pub spelling : List DatasetModel → ℕ → Speller ItemModel
 spelling registry id t = dataset_spelling registry 5 id t

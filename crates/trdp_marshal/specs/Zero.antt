@@ -40,5 +40,6 @@ dataset_zero registry (suc depth) id =
     (unwrap_or (elements_of registry id) []))
 
 -- the zero value of a dataset, which nests no deeper than 5
+-- rule: dataset.zero
 unfoldable pub zero_of : List DatasetModel → ℕ → ItemModel
 zero_of registry id = dataset_zero registry 5 id

@@ -3,7 +3,7 @@
 use std::alloc::{AllocError, AllocFailed};
 use thiserror::Error;
 
-/// Why an item has no bytes, or bytes have no item. The first that holds is answered.
+/// Why an item has no bytes, or bytes have no item. The first that holds is returned.
 #[derive(Clone, Copy, Debug, PartialEq, Eq, Error)]
 pub enum MarshalFault {
     /// No dataset has that identifier, or it is 0, of which any bytes are a payload.

@@ -22,8 +22,8 @@ impl Item {
     ghost use Rattle.std.specs.Prelude.{◌≡◌, option_map, IfOk};
     ghost use Rattle.trdp_marshal.specs.Items.{model_of, models_in, told_count, list, models_under};
 
-    /// An equal item in memory of its own. It calls itself as deep as the item nests: that of a
-    /// dataset nests no deeper than its registry lets it.
+    /// An equal item in memory of its own. It calls itself as deep as the item nests; an item of a
+    /// dataset nests no deeper than its registry allows.
     ///
     /// # Errors
     ///
@@ -53,7 +53,7 @@ impl Item {
         Item::List(items)
     }
 
-    /// How many values the array of size 0 after this entry has: the number that it is.
+    /// How many values the array of size 0 after this entry has: this entry's number.
     pub(crate) fn count(&self) -> u64
         ensures { result ≡ told_count (model_of self.now) }
     {

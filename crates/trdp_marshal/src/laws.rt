@@ -38,15 +38,15 @@ pub fn fitting_is_fit()
     ensures { FittingIsFit }
 {}
 
-/// Where a registry says how many bytes each value of a dataset takes, its values are spelled by
-/// the lists of so many bytes, and by no others.
+/// Where a registry says how many bytes each value of a dataset has, its values are spelled by the
+/// lists of that many bytes, and by no others.
 #[tactic(auto, using(crate::proofs::FixedLemmas::fixed_is_length))]
 pub fn fixed_size_is_length()
     ensures { FixedIsLength }
 {}
 
 /// The zero value of a dataset, whose numbers are all 0 and whose counted arrays are empty, is
-/// spelled by so many zero bytes.
+/// spelled by as many zero bytes as the registry says.
 #[tactic(auto, using(crate::proofs::ZeroLemmas::zero_spelled))]
 pub fn zero_is_spelled()
     ensures { ZeroIsSpelled }

@@ -1,7 +1,7 @@
 //! Values of datasets and the bytes that they are sent as.
 //!
-//! A dataset's value is an [`Item`]. [`encode`] gives its bytes, [`decode`] the item of bytes, and
-//! [`fits`] says whether bytes are a value at all; each other answer is a [`MarshalFault`].
+//! A dataset's value is an [`Item`]. [`encode`] returns its bytes, [`decode`] the item of bytes,
+//! and [`fits`] says whether bytes are a value at all. What fails is a [`MarshalFault`].
 //!
 //! ```text
 //! let bytes = encode(alloc, &registry, 1001, &item)?;
@@ -10,12 +10,12 @@
 //! ```
 //!
 //! Bytes are packed (profile): numbers are big-endian, as those of a header are
-//! (IEC 61375-2-3:2015, Annex A), and follow one another without alignment. One item has at most
-//! one list of bytes and one list of bytes is that of at most one item; the functions of [`laws`]
-//! say so for every registry.
+//! (IEC 61375-2-3:2015, Annex A), and follow one another without alignment. A node checks payloads
+//! with [`fits`]; it encodes and decodes where its program works with items.
 //!
-//! What no contract can say is that memory is there: a call that always answers `OutOfMemory`
-//! meets its contract, and the tests show that it doesn't.
+//! Proved: one item has at most one list of bytes, and one list of bytes is that of at most one
+//! item; the functions of [`laws`] say so for every registry. `encode` and `decode` compute just
+//! these, and each fault but `OutOfMemory` is returned exactly where it applies.
 #![tactic(auto)]
 
 mod code;

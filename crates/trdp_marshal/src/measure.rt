@@ -61,8 +61,8 @@ fn measure_time64(item: &Item) -> Option<usize>
     }
 }
 
-/// The length that stands for all that are too long: one more than the most bytes that one
-/// message carries.
+/// The length in place of all that are too long: one more than the most bytes that one message
+/// carries.
 pub(crate) const TOO_LONG: usize = 65_389;
 
 /// The sum of two lengths, or `TOO_LONG` where it is greater.

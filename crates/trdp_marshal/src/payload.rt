@@ -1,4 +1,4 @@
-//! Whether bytes are a payload of a dataset. Nothing is built, and no memory is taken.
+//! Whether bytes are a payload of a dataset. Nothing is built, and no memory is allocated.
 
 ghost use Rattle.std.specs.Prelude.{◌≡◌, ◌↔◌, ℕ, ◌*◌, true, false};
 ghost use Rattle.std.specs.Prelude.{drop, option_map, IsTrue, is_some};
@@ -17,8 +17,8 @@ ghost use Rattle.trdp_marshal.specs.Reading.{is_fitting_in};
 use crate::number::{DEPTH, item_count, number};
 use trdp_dataset::{Element, Form, Registry};
 
-/// Past so many values of so many bytes each, which aren't looked at; None where there are fewer
-/// bytes.
+/// The bytes after `count` values of `size` bytes each, which aren't looked at; None where there
+/// are fewer bytes.
 #[tactic(auto, unfolding(crate::specs::Lengths::rest_after))]
 fn skip_fixed(size: usize, count: u64, bytes: &[u8]) -> Option<&[u8]>
     ensures { option_map (λ rest. rest.now) result ≡ rest_after (count * size) bytes.now }
@@ -56,7 +56,7 @@ fn read_count(element: Element, bytes: &[u8]) -> Option<(u64, &[u8])>
     }
 }
 
-/// Past so many values of a type, one after the other. Those of a basic type aren't looked at.
+/// The bytes after that many values of a type. Those of a basic type aren't looked at.
 #[cycle(skip)]
 fn skip_values<'a>(
     registry: &Registry,
@@ -79,7 +79,7 @@ fn skip_values<'a>(
     }
 }
 
-/// Past so many values of a dataset that nests at most so deep, which is looked up once for all of
+/// The bytes after that many values of a dataset, down to a depth; it is looked up once for all of
 /// them. Each has a byte, so that a count beyond the bytes stops there.
 #[cycle(skip)]
 fn skip_datasets<'a>(
@@ -105,8 +105,8 @@ fn skip_datasets<'a>(
     Some(rest)
 }
 
-/// Past the entries of elements. A number in them is read only where it counts the items of the
-/// entry after it.
+/// The bytes after the entries of elements. A number in them is read only where it counts the
+/// items of the entry after it.
 #[cycle(skip)]
 fn skip_elements<'a>(
     registry: &Registry,
@@ -144,7 +144,7 @@ pub(crate) fn has_items(registry: &Registry, id: u32) -> bool
 }
 
 /// Whether the bytes are those of an item of a dataset that the registry has. Where all its values
-/// take as many bytes, only their number is looked at.
+/// have one length, only the number of bytes is looked at.
 pub(crate) fn fits_dataset(registry: &Registry, id: u32, bytes: &[u8]) -> bool
     ensures { result ≡ is_some (reading registry.now id bytes.now) }
 {
@@ -163,7 +163,7 @@ pub(crate) fn fits_dataset(registry: &Registry, id: u32, bytes: &[u8]) -> bool
 
 /// Whether the bytes are a payload of the dataset: any are of dataset 0, none are of an unknown
 /// dataset, and else they must be those of some item, with none left over. No item is built and no
-/// memory taken; a count that stands in the bytes is believed no further than the bytes go.
+/// memory allocated; a count in the bytes is believed no further than the bytes go.
 pub fn fits(registry: &Registry, id: u32, bytes: &[u8]) -> bool
     ensures value { result ≡ is_fitting_in registry.now id bytes.now }
     ensures meaning { IsTrue result ↔ Fits registry.now id bytes.now }

@@ -17,7 +17,7 @@ use crate::payload::{fits_dataset, has_items};
 use std::alloc::Global;
 use trdp_dataset::{Element, Form, Registry, Width};
 
-/// The signed number that a number of this width shows as two's complement.
+/// The signed number that a number of this width is as two's complement.
 #[tactic(auto, unfolding(crate::specs::Numbers::signed_number))]
 fn signed(width: Width, n: u64) -> i64
     requires { n < 256 ^ width_len width }
@@ -106,7 +106,7 @@ fn read_form<'a>(
     }
 }
 
-/// So many values of a type, one after the other. The list grows as they are read, not by the
+/// That many values of a type, one after the other. The list grows as they are read, not by the
 /// count.
 #[cycle(read)]
 fn read_repeated<'a>(
@@ -177,7 +177,7 @@ fn read_entries<'a>(
     Ok((items, rest))
 }
 
-/// A value of a dataset that nests at most so deep.
+/// A value of a dataset, down to a depth.
 #[cycle(read)]
 fn read_dataset<'a>(
     alloc: Global,
@@ -201,7 +201,7 @@ fn read_dataset<'a>(
     }
 }
 
-/// What [`decode`] answers. The bytes are looked at before memory is taken.
+/// What [`decode`] returns. The bytes are looked at before any allocation.
 fn decoded(alloc: Global, registry: &Registry, id: u32, bytes: &[u8]) -> Result<Item, MarshalFault>
     ensures value { IfOk result (λ item. Spells registry.now id (model_of item) bytes.now) }
     ensures reading { IfOk result (λ item. reading registry.now id bytes.now
@@ -218,12 +218,12 @@ fn decoded(alloc: Global, registry: &Registry, id: u32, bytes: &[u8]) -> Result<
     Ok(item)
 }
 
-/// The item of a dataset that these bytes spell, packed as IEC 61375-2-3 sends them. Nothing is
-/// reserved by a count that stands in the bytes.
+/// The item of a dataset that these bytes spell, packed as IEC 61375-2-3 sends them. No memory is
+/// reserved according to a count in the bytes.
 ///
 /// # Errors
 ///
-/// The first two are found before memory is taken, in this order:
+/// The first two are found before any allocation, in this order:
 /// - `NoDataset`: no dataset has that identifier, or it is 0, of which any bytes are a payload.
 /// - `Shape`: the bytes are those of no item: too few, or some left over.
 /// - `OutOfMemory`: there is no memory for the item.

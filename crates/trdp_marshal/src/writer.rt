@@ -21,7 +21,7 @@ use crate::payload::has_items;
 use std::alloc::{AllocError, Global};
 use trdp_dataset::{Element, Form, Registry, Width};
 
-/// Puts the lowest bytes of a number at the end, the highest of them first.
+/// Appends the lowest bytes of a number, the highest of them first.
 fn push_number(out: &mut Vec<u8>, n: u64, len: usize) -> Result<(), AllocError>
     requires { len ≤ 8 }
     ensures { OnOk result (out.new.items ≡ out.old.items ++ big_bytes len n) }
@@ -185,7 +185,7 @@ fn write_entries(
     Ok(())
 }
 
-/// An item of a dataset that nests at most so deep.
+/// An item of a dataset, down to a depth.
 #[cycle(write)]
 fn write_dataset(
     registry: &Registry,
@@ -215,7 +215,7 @@ fn write_dataset(
     }
 }
 
-/// What [`encode`] answers. The item is measured before memory is taken.
+/// What [`encode`] returns. The item is measured before any allocation.
 fn encoded(
     alloc: Global,
     registry: &Registry,
@@ -247,11 +247,11 @@ fn encoded(
 ///
 /// # Errors
 ///
-/// Each is found before memory is taken, in this order:
+/// Each is found before any allocation, in this order:
 /// - `NoDataset`: no dataset has that identifier, or it is 0, of which any bytes are a payload.
-/// - `Shape`: the item is no value of the dataset: an entry is of another kind or out of its
-///   type's range, or a list has not as many items as it should, for an array of size 0 as the
-///   entry before it says.
+/// - `Shape`: the item is no value of the dataset. An entry is of another kind or out of its
+///   type's range, or a list has not as many items as it should; an array of size 0 should have
+///   as many as the entry before it says.
 /// - `TooLong`: there are more than 65,388 bytes.
 /// - `OutOfMemory`: there is no memory for the bytes.
 pub fn encode(

@@ -6,9 +6,9 @@ ghost use Rattle.trdp_dataset.specs.ZeroSizes.{zero_size};
 
 use trdp_dataset::Registry;
 
-/// Writes the zero value of a known dataset at the front of a room that has place for it, and
-/// answers how many bytes it takes: each number in it is 0, so that each array of size 0 is
-/// empty, and so each byte is 0. The rest of the room stays as it was.
+/// Writes the zero value of a known dataset at the front of a room that is large enough, and
+/// returns how many bytes it has. Each number in it is 0, so that each array of size 0 is empty,
+/// and so each byte is 0. The rest of the room stays as it was.
 pub fn write_zero(registry: &Registry, id: u32, room: &mut [u8]) -> usize
     requires known { IsTrue (is_known registry.now id) }
     requires room { zero_size registry.now id ≤ length room.old }

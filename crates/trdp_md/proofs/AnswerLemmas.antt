@@ -1,4 +1,4 @@
--- The answers of a caller: of places apart, of its session, and settled one place at a time.
+-- The answers of a caller: from different places, of its session, settled one place at a time.
 -- For `caller_answers_stay_apart`, `caller_accepts_its_session` and `caller_confirms_one_place`.
 -- By: only a place that hasn't answered is accepted, and what is settled keeps its place.
 use Rattle.std.proofs.Common.{◌≡◌, ℕ, List, [], ◌∷◌, ◌++◌, map, Bool, true, false, refl, ap, arith}
@@ -60,7 +60,7 @@ all_apart_push (b ∷ answers) a h none = (
   all_apart_push answers a h.1 (or_right (is_place b.place a.place) _ none),
 )
 
--- a caller that takes a telegram
+-- a caller that is handed a telegram
 pub apart_taking : (c : Caller) (telegram : TelegramModel) (globals : Globals) (fits : Bool)
     → AreApart c.answers → AreApart (caller_taking c telegram globals fits).object.answers
 unfolding is_accepted_answer

@@ -1,4 +1,4 @@
--- What a caller takes, and what it keeps.
+-- What a caller accepts, and what it keeps.
 -- For `caller_tells_its_answers`, `caller_hears_each_place_once`, `caller_keeps` and two laws more.
 -- By cases: an answer is accepted and added, or the telegram leaves the caller as it was.
 use Rattle.std.proofs.Common.{◌≡◌, inl, inr, ℕ, ◌+◌, ◌<◌, Bool, true, false, refl, arith, List, []}
@@ -53,7 +53,7 @@ terms-taking c (MdIs src dst telegram) globals fits =
     either true is = rw is refl
     either false is = rw is refl
 
--- an answer is told as one
+-- an answer is reported as one
 IsReplied-replied : (c : Caller) → IsAnswerTaken (answer_taken c)
 unfolding answer_taken
 IsReplied-replied c = either (is_complete c) refl
@@ -66,7 +66,7 @@ nothing-told : IsAnswerTaken NotTaken → ⊥
 nothing-told (inl is) = absurd (cc)
 nothing-told (inr is) = absurd (cc)
 
--- what is told is accepted
+-- what is reported is accepted
 told-accepted :
     (c : Caller) (telegram : TelegramModel) (globals : Globals) (fits : Bool)
     → IsAnswerTaken (caller_taking c telegram globals fits).taken → IsAccepted c telegram
@@ -80,7 +80,7 @@ told-accepted c (MdIs src dst telegram) globals fits told =
     either true is = is
     either false is = absurd (nothing-told (rw is at told))
 
--- what is accepted is told
+-- what is accepted is reported
 accepted-told :
     (c : Caller) (telegram : TelegramModel) (globals : Globals) (fits : Bool)
     → IsAccepted c telegram → IsAnswerTaken (caller_taking c telegram globals fits).taken

@@ -171,7 +171,7 @@ closed-done c reason closed = either (is_complete c) refl
         (cc, IsDone-is_complete c is)
     either false is = let none : None ≡ Some reason = rw is at closed in absurd (cc)
 
--- what took the last answer is complete
+-- a caller that accepted its last answer is complete
 complete-replied : (c : Caller) → answer_taken c ≡ RepliedLast → is_complete c ≡ true
 unfolding answer_taken
 complete-replied c last = either (is_complete c) refl

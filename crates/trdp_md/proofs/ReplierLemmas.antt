@@ -1,4 +1,4 @@
--- What a replier takes, and what it keeps.
+-- What a replier accepts, and what it keeps.
 -- For `replier_is_confirmed_by_its_peer`, `replier_keeps` and `session_ends_later`.
 -- By cases: a message is the confirmation that it awaits, or leaves the replier as it was.
 use Rattle.std.proofs.Common.{◌≡◌, ℕ, ℤ, ◌+◌, ◌<◌, Bool, true, false, refl, ap, arith}
@@ -28,7 +28,7 @@ use Rattle.trdp_md.proofs.ConfirmLemmas.{both}
 false-true : false ≡ true → ⊥
 false-true is = absurd (cc)
 
--- a received replyTimeout stands for some time
+-- a received replyTimeout means some time
 reply_time-some : (timeout : ℕ) → 0 < reply_time timeout
 unfolding reply_time
 reply_time-some timeout = either (timeout == 0) refl

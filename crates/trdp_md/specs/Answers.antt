@@ -27,5 +27,6 @@ confirmed_if place answer =
     if is_place answer.place place then record answer { confirm_owed = false } else answer
 
 -- the answers once the place is confirmed: none from it awaits a confirmation any more
+-- rule: confirmation.owed
 unfoldable pub confirmed : List Answer → Place → List Answer
 confirmed answers place = map (confirmed_if place) answers

@@ -1,5 +1,5 @@
--- What is true of every caller: the proofs that it gives to the trait of all objects.
--- They stand here because what a trait's implementation names in src/ may stand in specs/ alone.
+-- What is true of every caller: its proofs for the trait of all objects. They are here because
+-- what a trait's implementation names in src/ may be in specs/ alone.
 use Rattle.std.proofs.Common.{◌≡◌, ℕ, Option, Some, None, Bool, true, false, refl, arith}
 use Rattle.std.specs.Prelude.{nat_le, max, ◌+◌}
 use Rattle.std.proofs.Math.Nat.{le-max_left}

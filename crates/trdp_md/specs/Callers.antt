@@ -38,6 +38,7 @@ new_caller terms payload now = record {
 }
 
 -- the header of its request, of that sequence counter
+-- rule: message.counter
 unfoldable pub request_of : CallerTerms → ℕ → MdHead
 request_of terms counter = record {
   counter = counter;
@@ -53,6 +54,7 @@ request_of terms counter = record {
 
 -- the header of a confirmation: the request's but for type, status and timeout; the URIs aren't
 -- swapped, since it goes the same way
+-- rule: confirmation.fields
 unfoldable pub confirm_of : CallerTerms → ℤ → MdHead
 confirm_of terms status = record {
   counter = 0;
@@ -75,7 +77,7 @@ is_answer Query = true
 is_answer Confirm = false
 is_answer Error = true
 
--- the message type that wants a confirmation (IEC 61375-2-3:2015, Annex A)
+-- the message type that expects a confirmation (IEC 61375-2-3:2015, Annex A)
 unfoldable pub is_query : MdKind → Bool
 is_query Notify = false
 is_query Request = false
@@ -84,19 +86,23 @@ is_query Query = true
 is_query Confirm = false
 is_query Error = false
 
--- the message answers a request of the caller's session, with counts that match the caller's
+-- the message answers a request of the caller's session, with topology counters that match the
+-- caller's
+-- rule: caller.answers
 unfoldable pub is_for_caller : Caller → MdHead → Bool
 is_for_caller c head =
     is_answer head.kind && head.session.0 == c.terms.session.0 && topo_valid head.topo c.terms.topo
 
--- there is a place for one more answer: there are fewer than eight, and fewer than expected
+-- there is room for one more answer: there are fewer than eight, and fewer than expected
+-- rule: caller.places
 unfoldable pub has_place : Caller → Bool
 has_place c =
     nat_lt (length c.answers) 8
     && (c.terms.expected == 0 || nat_lt (length c.answers) c.terms.expected)
 
--- acceptance: the message is for the caller, there is a place for it, and its source hasn't
--- answered yet
+-- acceptance: the message is for the caller, there is room for it, and its source hasn't answered
+-- yet
+-- rule: caller.once
 unfoldable pub is_accepted_answer : Caller → Place → MdHead → Bool
 is_accepted_answer c src head =
     is_for_caller c head && has_place c && not (has_answered c.answers src)
@@ -107,6 +113,7 @@ answer_of src head =
     record { place = src; kind = head.kind; confirm_owed = is_query head.kind }
 
 -- the deadline after an answer: a query moves it to the end of its own time, if this is later
+-- rule: caller.query
 unfoldable pub deadline_after : Option ℕ → MdHead → ℕ → Option ℕ
 deadline_after deadline head now =
     if is_query head.kind
@@ -120,13 +127,14 @@ answering c src head now = record c {
   deadline = deadline_after c.deadline head now;
 }
 
--- complete: a number of answers was expected, so many came, and none awaits a confirmation
+-- complete: a number of answers was expected, that many came, and none awaits a confirmation
+-- rule: caller.complete
 unfoldable pub is_complete : Caller → Bool
 is_complete c =
     nat_lt 0 c.terms.expected && nat_le c.terms.expected (length c.answers)
     && not (awaits_any c.answers)
 
--- what it is to have taken an answer
+-- what a caller reports that accepted an answer
 unfoldable pub answer_taken : Caller → Taken
 answer_taken c = if is_complete c then RepliedLast else Replied
 
@@ -134,7 +142,7 @@ answer_taken c = if is_complete c then RepliedLast else Replied
 abbrev pub caller_due : Caller → Option ℕ
 caller_due c = c.deadline
 
--- what the telegrams for a caller are; no process data is for one
+-- which telegrams are for a caller; no process data is
 abbrev pub caller_addressed : Caller → TelegramModel → Globals → Bool
 caller_addressed c (PdIs src dst telegram) globals = false
 caller_addressed c (MdIs src dst telegram) globals = is_for_caller c telegram.head
@@ -151,6 +159,7 @@ caller_taking c (MdIs src dst telegram) globals fits =
     else record { object = c; taken = NotTaken }
 
 -- why it closes at its deadline: the first of these that applies
+-- rule: caller.reason
 unfoldable pub reason_of : Caller → Reason
 reason_of c =
     if length c.answers == 0 then NoReply else
@@ -158,15 +167,19 @@ reason_of c =
     if awaits_any c.answers then NotConfirmed else Done
 
 -- no answer came, and a repeat is left
+-- rule: caller.unanswered
 unfoldable pub is_repeating : Caller → Bool
 is_repeating c = length c.answers == 0 && nat_lt 0 c.left
 
--- one repeat is used up, and the timeout begins anew
+-- one repeat is used up, and the timeout restarts
+-- rule: caller.deadline
 abbrev pub waiting_again : Caller → ℕ → Caller
 waiting_again c now = record c { left = c.left - 1; deadline = Some (now + c.terms.timeout) }
 
--- a repeat: the request is sent again under the number of those sent before, where its counts
--- match the node's; else nothing is sent, and that number stays
+-- a repeat: the request is sent again, with the number of those sent before as its sequence
+-- counter, where its topology counters match the node's; else nothing is sent, and that number
+-- stays
+-- rule: caller.repeat
 abbrev pub repeating : Caller → Globals → Firing Caller
 repeating c globals =
     if topo_valid c.terms.topo globals.topo
@@ -183,7 +196,7 @@ caller_firing c globals =
     then repeating c globals
     else record { object = record c { deadline = None }; fired = Closed (reason_of c) }
 
--- what the laws of objects ask of a caller: that it waits for a time
+-- what the laws of objects require of a caller: that it waits for a time
 unfoldable pub is_sound_caller : Caller → Bool
 is_sound_caller c = nat_lt 0 c.terms.timeout
 

@@ -21,6 +21,7 @@ listening filter = record { filter = filter }
 
 -- the message types that come unasked (IEC 61375-2-3:2015, Annex A); all others belong to a request
 -- that was made
+-- rule: listener.kind
 unfoldable pub is_unasked : MdKind → Bool
 is_unasked Notify = true
 is_unasked Request = true
@@ -38,7 +39,7 @@ is_for_listener l src dst head globals =
 abbrev pub listener_due : Listener → Option ℕ
 listener_due l = None
 
--- what the telegrams for a listener are; no process data is for one
+-- which telegrams are for a listener; no process data is
 abbrev pub listener_addressed : Listener → TelegramModel → Globals → Bool
 listener_addressed l (PdIs src dst telegram) globals = false
 listener_addressed l (MdIs src dst telegram) globals =

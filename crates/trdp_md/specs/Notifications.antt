@@ -4,7 +4,9 @@ use Rattle.trdp_head.specs.declared.md.MdHead.{MdHead}
 use Rattle.trdp_head.specs.declared.md.MdKind.TheVariants.{Notify}
 use Rattle.trdp_md.specs.declared.terms.NotifyTerms.{NotifyTerms}
 
--- the header of a notification: its comId, counts and URIs, and 0 in all that belongs to a session
+-- the header of a notification: its comId, topology counters and URIs, and 0 in all that belongs
+-- to a session
+-- rule: notification.fields
 unfoldable pub notification_of : NotifyTerms → MdHead
 notification_of terms = record {
   counter = 0;

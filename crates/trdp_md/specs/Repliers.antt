@@ -19,8 +19,8 @@ use Rattle.trdp_md.specs.declared.replier.Stage.TheVariants.{Asked, AwaitConfirm
 use Rattle.trdp_md.specs.declared.replier.Replier.{Replier}
 use Rattle.trdp_md.specs.Waiting.{reply_by}
 
--- a new replier: it keeps from the request whom to answer and with what, and the request's time
--- begins now
+-- a new replier: it keeps from the request where to send answers and with what fields, and the
+-- request's time begins now
 abbrev pub asked_by : Place → MdHead → ℕ → Replier
 asked_by peer head now = record {
   peer = peer;
@@ -32,8 +32,9 @@ asked_by peer head now = record {
   deadline = Some (reply_by head.timeout now);
 }
 
--- the header of an answer: of the request's session and counts, from whom the request was for to
--- whom it came from
+-- the header of an answer: of the request's session and topology counters, with the request's URIs
+-- swapped
+-- rule: replier.answer
 unfoldable pub answer_with : Replier → MdKind → ℕ → ℤ → ℕ → MdHead
 answer_with r kind com_id status timeout = record {
   counter = 0;
@@ -48,11 +49,13 @@ answer_with r kind com_id status timeout = record {
 }
 
 -- a query was sent: its confirmation is awaited, for a time that begins now
+-- rule: replier.query
 abbrev pub queried : Replier → ℕ → ℕ → Replier
 queried r now timeout =
     record r { stage = AwaitConfirm; deadline = Some (now + timeout) }
 
 -- the stage in which a confirmation is awaited
+-- rule: confirmation.stage
 unfoldable pub awaits_confirm : Stage → Bool
 awaits_confirm Asked = false
 awaits_confirm AwaitConfirm = true
@@ -67,7 +70,8 @@ is_confirm Confirm = true
 is_confirm Error = false
 
 -- a confirmation is awaited, and the message is one of the replier's session, from the peer's
--- address and any port, with counts that match the request's
+-- address and any port, with topology counters that match the request's
+-- rule: confirmation.source
 unfoldable pub is_for_replier : Replier → Place → MdHead → Bool
 is_for_replier r src head =
     awaits_confirm r.stage && is_confirm head.kind && head.session.0 == r.session.0
@@ -77,7 +81,7 @@ is_for_replier r src head =
 abbrev pub replier_due : Replier → Option ℕ
 replier_due r = r.deadline
 
--- what the telegrams for a replier are; no process data is for one
+-- which telegrams are for a replier; no process data is
 abbrev pub replier_addressed : Replier → TelegramModel → Globals → Bool
 replier_addressed r (PdIs src dst telegram) globals = false
 replier_addressed r (MdIs src dst telegram) globals = is_for_replier r src telegram.head
@@ -95,6 +99,7 @@ replier_taking r (MdIs src dst telegram) globals fits =
     else record { object = r; taken = NotTaken }
 
 -- why it closes at its deadline
+-- rule: replier.reason
 unfoldable pub missed : Stage → Reason
 missed Asked = ReplyMissed
 missed AwaitConfirm = NoConfirm

@@ -1,4 +1,4 @@
--- What is told of callers and repliers.
+-- What the laws say of callers and repliers.
 use Rattle.std.specs.Prelude.{◌≡◌, ◌⊎◌, ℤ, ◌<◌, ◌≤◌, ◌∷◌, [], ◌++◌, List, length, true, false}
 use Rattle.std.specs.Prelude.{◌&&◌, not}
 use Rattle.std.specs.List.{All, Any}
@@ -16,7 +16,7 @@ use Rattle.trdp_md.specs.declared.replier.Stage.TheVariants.{AwaitConfirm}
 use Rattle.trdp_md.specs.Answers.{is_place, awaits_any}
 use Rattle.trdp_md.specs.Callers.{is_accepted_answer, answer_of}
 
--- an answer was taken
+-- an answer was accepted
 abbrev pub IsAnswerTaken : Taken → Type 0
 IsAnswerTaken taken = (taken ≡ Replied) ⊎ (taken ≡ RepliedLast)
 
@@ -40,13 +40,13 @@ abbrev pub HasAwaiting : List Answer → Place → Type 0
 HasAwaiting answers place =
     Any (λ answer. (answer.place ≡ place) × (answer.confirm_owed ≡ true)) answers
 
--- none of the answers is of the place
+-- none of the answers is from the place
 abbrev pub IsApart : Place → List Answer → Type 0
 IsApart place [] = Unit {0}
 IsApart place (answer ∷ answers) =
     (is_place answer.place place ≡ false) × IsApart place answers
 
--- no two of the answers are of one place
+-- no two of the answers are from one place
 abbrev pub AreApart : List Answer → Type 0
 AreApart [] = Unit {0}
 AreApart (answer ∷ answers) = IsApart answer.place answers × AreApart answers
@@ -64,7 +64,7 @@ SettlesAt place (answer ∷ before) (then_answer ∷ after) =
     × SettlesAt place before after
 SettlesAt place before after = ⊥
 
--- nothing is wanted any more: there is an answer, there are no fewer than expected, and none
+-- nothing is expected any more: there is an answer, there are no fewer than expected, and none
 -- awaits a confirmation
 pub record IsDone (c : Caller) : Type 0 where
   pub some : 0 < length c.answers
@@ -80,7 +80,7 @@ pub record IsOfSameRequest (r after : Replier) : Type 0 where
   pub dest_uri : after.dest_uri ≡ r.dest_uri
 
 -- the replier awaits a confirmation, and the telegram is one of its session with this status, from
--- the peer's address, with counts that match the request's
+-- the peer's address, with topology counters that match the request's
 abbrev pub IsItsConfirmation : Replier → TelegramModel → ℤ → Type 0
 IsItsConfirmation r (PdIs src dst telegram) status = ⊥
 IsItsConfirmation r (MdIs src dst telegram) status =

@@ -1,7 +1,8 @@
--- For how long a received message lets wait.
+-- The waiting time that a received message sets.
 use Rattle.std.specs.Prelude.{ℕ, ◌+◌, ◌==◌, if◌then◌else◌}
 
--- the time of a received replyTimeout; 0 stands for 5,000,000 microseconds
+-- the time of a received replyTimeout; 0 means 5,000,000 microseconds
+-- rule: replier.time
 unfoldable pub reply_time : ℕ → ℕ
 reply_time timeout = if timeout == 0 then 5000000 else timeout
 

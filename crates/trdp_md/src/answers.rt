@@ -1,4 +1,4 @@
-//! The answers to one request, each from a place of its own.
+//! The answers to one request, each from a [`Place`] of its own.
 
 ghost use Rattle.std.specs.Prelude.{◌≡◌, ◌<◌, ◌≤◌, List, [], ◌∷◌, ◌++◌, length, take};
 ghost use Rattle.std.specs.List.{list_any};
@@ -9,10 +9,10 @@ use std::marker::Model;
 use trdp_base::{Ip, Place};
 use trdp_head::MdKind;
 
-/// At how many places a request may have its answers (profile).
+/// From how many places a request may have answers (profile).
 pub const PLACES_MAX: usize = 8;
 
-/// What stands where no answer is.
+/// The entry where no answer is.
 const NO_ANSWER: Answer = Answer {
     place: Place { ip: Ip(0), port: 0 },
     kind: MdKind::Reply,
@@ -22,7 +22,7 @@ const NO_ANSWER: Answer = Answer {
 /// An answer to a request.
 #[derive(Clone, Copy, Debug, PartialEq, Eq)]
 pub struct Answer {
-    /// Where it came from.
+    /// The address and port that it came from.
     pub place: Place,
     /// Its message type: a reply, a query or an error.
     pub kind: MdKind,
@@ -33,7 +33,7 @@ pub struct Answer {
 /// At most [`PLACES_MAX`] answers, in the order in which they came.
 #[derive(Drop)]
 pub struct Answers {
-    /// The answers, and behind them what counts for nothing.
+    /// The answers, and after them entries without meaning.
     room: [Answer; PLACES_MAX],
     /// How many answers there are, 0 to [`PLACES_MAX`].
     count: usize,
@@ -90,7 +90,7 @@ fn confirmed_if(answer: Answer, place: Place) -> Answer
     }
 }
 
-/// Ends the awaiting of the answers from the place.
+/// Marks the answers from the place as confirmed.
 #[tactic(auto, unfolding(crate::specs::Answers::confirmed))]
 fn end_awaiting(answers: &mut [Answer], place: Place)
     ensures { answers.new ≡ confirmed answers.old place }
@@ -119,7 +119,7 @@ impl Answers {
         &self.room[..self.count]
     }
 
-    /// Adds an answer behind the others.
+    /// Adds an answer after the others.
     pub fn add(&mut self, answer: Answer)
         requires { length self.old < 8 }
         ensures { self.new ≡ self.old ++ answer ∷ [] }
@@ -128,7 +128,7 @@ impl Answers {
         self.count += 1;
     }
 
-    /// Ends the awaiting of the answers from the place.
+    /// Marks the answers from the place as confirmed.
     #[tactic(auto, unfolding(crate::specs::Answers::confirmed))]
     pub fn confirm(&mut self, place: Place)
         ensures { self.new ≡ confirmed self.old place }

@@ -35,15 +35,16 @@ use trdp_pd::{Fired, Object, Reason, Taken};
 /// A caller, with room for the answers of eight places.
 #[derive(Drop)]
 pub struct Caller {
-    /// What it asks for; never changed.
+    /// What its request is and where it goes; never changed.
     terms: CallerTerms,
-    /// The answers that it took, each from a place of its own.
+    /// The answers that it accepted, each from a place of its own.
     answers: Answers,
-    /// When it sends its request again or closes, in microseconds; None once it closed.
+    /// When it sends its request again or closes, in microseconds since the node began; None once
+    /// it closed.
     deadline: Option<u64>,
     /// What its request carries; never changed.
     payload: Payload,
-    /// How often it sends its request again at most from now on.
+    /// How many repeats of its request are left.
     left: u8,
     /// The sequence counter that its next request carries: how many it has sent.
     counter: u32,
@@ -60,7 +61,7 @@ fn is_answer(kind: MdKind) -> bool
     }
 }
 
-/// Whether messages of this type want a confirmation.
+/// Whether messages of this type expect a confirmation.
 #[tactic(auto, unfolding(crate::specs::Callers::is_query))]
 fn is_query(kind: MdKind) -> bool
     ensures { result ≡ is_query kind }
@@ -106,8 +107,8 @@ pub fn request_head(terms: &CallerTerms, counter: u32) -> MdHead
 }
 
 impl Caller {
-    /// A caller without answers, whose timeout begins now, in microseconds, and whose first request
-    /// is sent by whom it is made. It keeps the request's payload.
+    /// A caller without answers, whose timeout begins now, in microseconds. It keeps the request's
+    /// payload; the first request is sent by the code that makes it.
     ///
     /// # Errors
     /// [`AllocError`] where there is no memory for the payload.
@@ -154,7 +155,8 @@ impl Caller {
         self.terms.session
     }
 
-    /// The answers that it took, each from a place of its own, in the order in which they came.
+    /// The answers that it accepted, each from a place of its own, in the order in which they
+    /// came.
     pub fn answers(&self) -> &[Answer]
         ensures value { result.now ≡ self.now.answers }
         ensures within { length result.now ≤ 8 }
@@ -169,8 +171,8 @@ impl Caller {
         answers::awaits(self.answers.as_slice(), place)
     }
 
-    /// Ends the awaiting of the place, whose confirmation is sent; false, and nothing changes,
-    /// where it awaits none.
+    /// Marks the answers from the place as confirmed, so that a confirmation is to be sent; false,
+    /// and nothing changes, where none from there awaits one.
     #[tactic(auto, unfolding(crate::specs::Callers::confirming))]
     pub fn confirm(&mut self, place: Place) -> bool
         ensures found { result ≡ awaits self.old.answers place }
@@ -183,8 +185,8 @@ impl Caller {
         true
     }
 
-    /// The header of a confirmation with this status, 0 or more: the request's comId, counts,
-    /// session and URIs, as they were, and timeout 0 (profile).
+    /// The header of a confirmation with this status, 0 or more: the request's comId, topology
+    /// counters, session and URIs, as they were, and timeout 0 (profile).
     #[tactic(auto, unfolding(crate::specs::Callers::confirm_of))]
     pub fn confirm_head(&self, status: i32) -> MdHead
         ensures { result ≡ confirm_of self.now.terms status }
@@ -216,7 +218,7 @@ impl Caller {
         }
     }
 
-    /// Whether a number of answers was expected, so many came, and none awaits a confirmation.
+    /// Whether a number of answers was expected, that many came, and none awaits a confirmation.
     #[tactic(auto, unfolding(crate::specs::Callers::is_complete))]
     fn is_complete(&self) -> bool
         ensures { result ≡ is_complete self.now }
@@ -226,7 +228,8 @@ impl Caller {
         0 < expected && expected <= answers.len() && !answers::awaits_any(answers)
     }
 
-    /// Whether the message answers a request of its session, with counts that match its own.
+    /// Whether the message answers a request of its session, with topology counters that match its
+    /// own.
     #[tactic(auto, unfolding(crate::specs::Callers::is_for_caller))]
     fn is_for(&self, head: &MdHead) -> bool
         ensures { result ≡ is_for_caller self.now head.now }
@@ -236,7 +239,7 @@ impl Caller {
             && topo_valid(head.topo, self.terms.topo)
     }
 
-    /// Whether there is a place for one more answer.
+    /// Whether there is room for one more answer.
     #[tactic(auto, unfolding(crate::specs::Callers::has_place))]
     fn has_place(&self) -> bool
         ensures value { result ≡ has_place self.now }
@@ -247,7 +250,7 @@ impl Caller {
         count < PLACES_MAX && (expected == 0 || count < expected)
     }
 
-    /// Whether it takes the answer from that place.
+    /// Whether it accepts the answer from that place.
     #[tactic(auto, unfolding(crate::specs::Callers::is_accepted_answer))]
     fn accepts(&self, src: Place, head: &MdHead) -> bool
         ensures value { result ≡ is_accepted_answer self.now src head.now }
@@ -258,7 +261,7 @@ impl Caller {
             && !answers::has_answered(self.answers.as_slice(), src)
     }
 
-    /// Adds an answer that it takes, and says what this is.
+    /// Adds an answer that it accepts, and returns whether it was the last.
     #[tactic(auto, unfolding(crate::specs::Callers::answer_taken))]
     fn add(&mut self, src: Place, head: &MdHead, now: u64) -> Taken
         requires now { now ≤ last_moment }
@@ -288,7 +291,7 @@ impl Caller {
         self.answers.as_slice().is_empty() && self.left > 0
     }
 
-    /// Waits once more, and sends its request again where its counts match the node's.
+    /// Waits once more, and sends its request again where its topology counters match the node's.
     fn repeat(&mut self, globals: &Globals) -> Fired
         requires left { 0 < self.old.left }
         requires now { globals.now.now ≤ last_moment }
@@ -351,12 +354,13 @@ impl Object for Caller {
 
     ghost kept_sound_by_firing = { caller_sound-firing };
 
-    /// When it sends its request again or closes, in microseconds; None once it closed.
+    /// When it sends its request again or closes, in microseconds since the node began; None once
+    /// it closed.
     fn due(&self) -> Option<u64> {
         self.deadline
     }
 
-    /// The answers of its session are for it, with counts that match its own.
+    /// The answers of its session are for it, with topology counters that match its own.
     fn addressed(&self, telegram: &Telegram<'_>, _globals: &Globals) -> bool {
         match telegram {
             Telegram::Pd { .. } => false,

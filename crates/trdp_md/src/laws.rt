@@ -1,5 +1,5 @@
-//! What is true of every object of one kind, whatever came before, beside the laws of the trait
-//! [`trdp_pd::Object`].
+//! What is true of every object of one kind, whatever came before, in addition to the laws of the
+//! trait [`trdp_pd::Object`].
 
 ghost use Rattle.std.specs.Prelude.{◌≡◌, ◌↔◌, ℕ, ℤ, ◌<◌, ◌⊎◌, Bool, true, false, Some, List, []};
 ghost use Rattle.trdp_base.specs.declared.place.Place.{Place};
@@ -50,7 +50,7 @@ pub fn session_ends_later()
         → has_come_by now (replier_due (queried r now timeout)) ≡ false }
 {}
 
-/// Nothing changes what a caller asks for.
+/// Nothing changes the request of a caller.
 pub fn caller_keeps()
     ensures taken { (c : Caller) (telegram : TelegramModel) (globals : Globals) (fits : Bool)
         → (caller_taking c telegram globals fits).object.terms ≡ c.terms }
@@ -63,8 +63,8 @@ pub fn caller_keeps()
         → (caller_firing c globals).object.payload ≡ c.payload }
 {}
 
-/// What a caller sends again is its request, under the number of those sent before, and only
-/// while no answer came; each repeat, sent or not, uses up one of those that are left.
+/// What a caller sends again is its request, with the number of those sent before as its sequence
+/// counter, and only while no answer came; each repeat, sent or not, uses up one that is left.
 pub fn caller_repeats_its_request()
     ensures unanswered { (c : Caller) (globals : Globals) (head : MdHead)
         → (caller_firing c globals).fired ≡ Fired.Again head → c.answers ≡ [] }
@@ -77,7 +77,7 @@ pub fn caller_repeats_its_request()
         → (caller_firing c globals).object.answers ≡ c.answers }
 {}
 
-/// A caller tells each answer that it accepts, and no other telegram, and keeps it as it came.
+/// A caller reports each answer that it accepts, and no other telegram, and keeps it as it came.
 pub fn caller_tells_its_answers()
     ensures told { (c : Caller) (telegram : TelegramModel) (globals : Globals) (fits : Bool)
         → IsAnswerTaken (caller_taking c telegram globals fits).taken ↔ IsAccepted c telegram }
@@ -86,7 +86,7 @@ pub fn caller_tells_its_answers()
         → HasAdded c telegram (caller_taking c telegram globals fits).object }
 {}
 
-/// A caller takes one answer of each place.
+/// A caller accepts one answer from each place.
 pub fn caller_hears_each_place_once()
     ensures once { (c : Caller) (src dst : Place) (telegram : MdTelegram)
         → has_answered c.answers src ≡ true → ¬ IsAccepted c (MdIs src dst telegram) }
@@ -98,8 +98,8 @@ pub fn caller_hears_each_place_once()
         → has_answered (caller_taking c telegram globals fits).object.answers place ≡ true }
 {}
 
-/// No two answers of a caller are of one place: a new caller has none, and whatever it takes, fires
-/// or confirms, they stay of places apart.
+/// No two answers of a caller are from one place: a new caller has none, and whatever it accepts,
+/// fires or confirms, they stay from different places.
 pub fn caller_answers_stay_apart()
     ensures new { (terms : CallerTerms) (payload : List ℕ) (now : ℕ)
         → AreApart (new_caller terms payload now).answers }
@@ -119,7 +119,7 @@ pub fn caller_accepts_its_session()
         → IsAccepted c (MdIs src dst telegram) → IsAnswerKind telegram.head.kind }
 {}
 
-/// A confirmation ends what is owed to its place alone; which places answered, and how, stays.
+/// A confirmation settles the answers from its place alone; which places answered, and how, stays.
 pub fn caller_confirms_one_place()
     ensures { (c : Caller) (place : Place)
         → SettlesAt place c.answers (confirming c place).answers }
@@ -139,7 +139,7 @@ pub fn caller_awaits_queries_only()
         → AwaitsQueriesOnly (confirming c place).answers }
 {}
 
-/// A place is confirmed where an answer of it awaits this, and then no more.
+/// A place is confirmed where an answer from it awaits this, and then no more.
 pub fn caller_confirms_what_awaits()
     ensures found { (c : Caller) (place : Place) → awaits c.answers place ≡ true
         → HasAwaiting c.answers place }

@@ -7,18 +7,18 @@
 //!
 //! ```text
 //! caller asks        Mr -->  a listener hears it, and a replier is made
-//! caller takes it   <-- Mq   the replier queries, and awaits a confirmation
+//! caller accepts    <-- Mq   the replier queries, and awaits a confirmation
 //! caller confirms    Mc -->  the replier is over
 //! ```
 //!
-//! Each object is one state, and what a telegram or a moment does to it is a function of this
-//! state, the telegram and the node's globals alone. Message types, sessions and header fields are
-//! those of IEC 61375-2-3:2015, Annex A; which answers count, how often a request is sent again and
-//! when an object is over is our own choice where the text says *profile*. A caller takes the
-//! memory of its payload when it is made; nothing else here takes any.
+//! Message types, sessions and header fields are those of IEC 61375-2-3:2015, Annex A; which
+//! answers count, how often a request is sent again and when an object is over is our own choice
+//! where the text says *profile*. A new caller allocates its payload; nothing else here allocates.
+//! `trdp_model` joins these objects with those of process data.
 //!
-//! What no contract can say is that memory is there for a caller's payload, that a message
-//! arrives, and that somebody calls `fire` when an object is due.
+//! Proved: each object is one state, and what a telegram or a moment does to it is a function of
+//! this state, the telegram and the node's globals alone. No contract here says that a message
+//! arrives, or that the node calls `fire` when an object is due.
 #![tactic(auto)]
 
 mod answers;

@@ -1,4 +1,4 @@
-//! Notifications: messages that want no reply.
+//! Notifications: messages that expect no reply.
 
 ghost use Rattle.std.specs.Prelude.{◌≡◌};
 ghost use Rattle.trdp_md.specs.Notifications.{notification_of};

@@ -38,11 +38,11 @@ pub enum Stage {
 /// A replier.
 #[derive(Clone, Copy, Debug, PartialEq, Eq)]
 pub struct Replier {
-    /// Where the request came from; never changed.
+    /// The address and port that the request came from; never changed.
     peer: Place,
     /// The request's session; never changed.
     session: SessionId,
-    /// The request's topology counts; never changed.
+    /// The request's topology counters; never changed.
     topo: Topo,
     /// The request's source URI; never changed.
     source_uri: Uri,
@@ -50,7 +50,7 @@ pub struct Replier {
     dest_uri: Uri,
     /// How far the answer is.
     stage: Stage,
-    /// When it closes, in microseconds; None once it is over.
+    /// When it closes, in microseconds since the node began; None once it is over.
     deadline: Option<u64>,
 }
 
@@ -90,7 +90,7 @@ fn missed(stage: Stage) -> Reason
 
 impl Replier {
     /// A replier to a request with this header from the peer, whose replyTimeout begins now, in
-    /// microseconds; a replyTimeout of 0 stands for 5,000,000 (profile).
+    /// microseconds; a replyTimeout of 0 means 5,000,000 (profile).
     pub fn new(peer: Place, head: &MdHead, now: u64) -> Replier
         requires { now ≤ last_moment }
         ensures { result ≡ asked_by peer head.now now }
@@ -113,7 +113,7 @@ impl Replier {
         self.stage
     }
 
-    /// Where the request came from, and its answers go.
+    /// The address and port that the request came from, and its answers go to.
     pub fn peer(&self) -> Place
         ensures { result ≡ self.now.peer }
     {
@@ -127,14 +127,14 @@ impl Replier {
         self.session
     }
 
-    /// The header of a reply that wants no confirmation, with this status, 0 or more.
+    /// The header of a reply that expects no confirmation, with this status, 0 or more.
     pub fn reply_head(&self, com_id: u32, status: i32) -> MdHead
         ensures { result ≡ answer_with self.now Reply com_id status 0 }
     {
         self.answer(MdKind::Reply, com_id, status, 0)
     }
 
-    /// The header of a reply that wants a confirmation within so many microseconds, with this
+    /// The header of a reply that expects a confirmation within `timeout` microseconds, with this
     /// status, 0 or more.
     pub fn query_head(&self, com_id: u32, status: i32, timeout: u32) -> MdHead
         ensures { result ≡ answer_with self.now Query com_id status timeout }
@@ -149,7 +149,7 @@ impl Replier {
         self.answer(MdKind::Error, com_id, status, 0)
     }
 
-    /// Waits for the confirmation of its query, for so many microseconds from now on.
+    /// Waits for the confirmation of its query, for `timeout` microseconds from now on.
     pub fn query(&mut self, now: u64, timeout: u32)
         requires asked { self.old.stage ≡ Stage.Asked }
         requires now { now ≤ last_moment }
@@ -162,8 +162,8 @@ impl Replier {
         };
     }
 
-    /// The header of an answer of this type: of the request's session and counts, with the
-    /// request's URIs swapped and sequence counter 0 (profile).
+    /// The header of an answer of this type: of the request's session and topology counters, with
+    /// the request's URIs swapped and sequence counter 0 (profile).
     #[tactic(auto, unfolding(crate::specs::Repliers::answer_with))]
     fn answer(&self, kind: MdKind, com_id: u32, status: i32, timeout: u32) -> MdHead
         ensures { result ≡ answer_with self.now kind com_id status timeout }
@@ -221,7 +221,7 @@ impl Object for Replier {
 
     ghost kept_sound_by_firing = { λ _ _ sound. sound };
 
-    /// When it closes, in microseconds; None once it is over.
+    /// When it closes, in microseconds since the node began; None once it is over.
     fn due(&self) -> Option<u64> {
         self.deadline
     }

@@ -1,13 +1,13 @@
-//! For how long a received message lets wait.
+//! The waiting time that a received message sets.
 
 ghost use Rattle.std.specs.Prelude.{◌≡◌, ◌+◌, ◌≤◌, ◌^◌};
 ghost use Rattle.trdp_base.specs.Moments.{last_moment};
 ghost use Rattle.trdp_md.specs.Waiting.{reply_time, reply_by};
 
-/// What a received replyTimeout of 0 stands for, in microseconds (profile).
+/// What a received replyTimeout of 0 means, in microseconds (profile).
 const REPLY_TIME: u32 = 5_000_000;
 
-/// The time that a received replyTimeout stands for, in microseconds.
+/// The time that a received replyTimeout means, in microseconds.
 #[tactic(auto, unfolding(crate::specs::Waiting::reply_time))]
 fn reply_time(timeout: u32) -> u32
     ensures { result ≡ reply_time timeout }

@@ -1,4 +1,4 @@
--- A slot that is opened behind the others: what stands at each number then, and what it gets.
+-- A slot that is opened after the others: what is at each number then, and what it gets.
 -- For the steps and the run of a node that open a slot, in the crates above.
 -- By cases on the number: before the new slot, its own, or past it.
 use Rattle.std.proofs.Common.{zero, suc, ◌≡◌, ℕ, ◌<◌, ◌+◌, List, [], ◌∷◌, ◌++◌, length, refl, ◌∙◌}
@@ -56,7 +56,7 @@ pub one_more : (slots : List SlotState) (added : SlotState)
 one_more [] added = refl
 one_more (x ∷ slots) added = omega (arith, one_more slots added)
 
--- the record is told at that number alone
+-- the record is got at that number alone
 told_other : (records : List RecordModel) (n s : ℕ) (contents : List Content)
     → (n == s) ≡ false → records_of s (records ++ labelled n contents) ≡ records_of s records
 told_other records n s contents other = records_of-append s records (labelled n contents)
@@ -132,7 +132,7 @@ opening_alone old new records records_then quotas few opened told s =
         ∙ added_before old.slots (empty_slot quotas) slot s found)
         (other apart)
 
--- the record is added behind those of before, and none for a number that has no slot then
+-- the record is added after those of before, and none for a number that has no slot then
 pub opening_appends : (slots : List SlotState) (added : SlotState) (contents : List Content)
     (records : List RecordModel) → Appends (slots ++ added ∷ []) records
     (records ++ labelled (length slots) contents)
@@ -172,7 +172,7 @@ lists_same (x ∷ xs) (y ∷ ys) each =
     let same : x ≡ y = cc in
     ap (λ z. z ∷ xs) same ∙ ap (λ zs. y ∷ zs) (lists_same xs ys (λ i. each (suc i)))
 
--- what stands past the last slot after an admitted event: the slot that it opens
+-- what is past the last slot after an admitted event: the slot that it opens
 pub opened_at : (setup : NodeSetup) (n : ℕ) (globals : Globals) (event : EventModel)
     → refused_as n globals event ≡ None → (i : ℕ)
     → slice_get (opened_by event) i ≡ (standing_after setup (n + i) n None globals event).slot
@@ -196,7 +196,7 @@ none_either : (b : Bool) → (let none : List Content = [] in if b then none els
 none_either true = refl
 none_either false = refl
 
--- and what a number without a slot is told of it
+-- and what a number without a slot gets of it
 pub told_opened : (setup : NodeSetup) (s n : ℕ) (globals : Globals) (event : EventModel)
     → refused_as n globals event ≡ None
     → (standing_after setup s n None globals event).records
@@ -220,7 +220,7 @@ told_opened setup s n globals (AddSlotIs quotas) admitted = added (s == n) refl
 
 -- What a step says that opens a slot, or doesn't.
 
--- it was taken only where there was room for a slot more
+-- it was accepted only where there was room for a slot more
 room_left : (n : ℕ) (globals : Globals) (quotas : List ℕ)
     → FaultIs (refused_as n globals (AddSlotIs quotas)) (Ok tt) → n < slot_limit
 room_left n globals quotas answer = by (nat_le slot_limit n) refl answer

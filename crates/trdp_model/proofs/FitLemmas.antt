@@ -1,7 +1,7 @@
 -- What keeps an object fit: the value of a subscription is one of its dataset at first, at a
--- time-out, and as it is taken, and a caller is sound.
+-- time-out, and as it is stored, and a caller is sound.
 -- For `FitActLemmas` and `FitEventLemmas`, and for a node's step to a moment.
--- By cases on the kind of the object: the values of all but a subscription's count for nothing.
+-- By cases on the kind of the object: no value but a subscription's matters.
 use Rattle.std.proofs.Common.{◌≡◌, ℕ, List, length}
 use Rattle.std.proofs.Common.{Some, Option, Bool, true, false, refl}
 use Rattle.std.specs.Prelude.{replicate, not, ◌==◌, ◌&&◌, if◌then◌else◌}
@@ -131,7 +131,7 @@ middle true true c is = refl
 middle true false c is = absurd (cc)
 middle false b c is = absurd (cc)
 
--- only a payload that fits is taken
+-- only a payload that fits is stored
 accepted_fits : (s : SubscriptionState) (src dst : Place)
     (telegram : PdTelegram) (globals : Globals) (fits : Bool)
     → is_accepted_value s src dst telegram.head globals fits ≡ true → fits ≡ true
@@ -155,7 +155,7 @@ storing_fits setup s src dst telegram globals fit = either (is_accepted_value s
         rw is (record { dataset = fit.dataset; zero_size = fit.zero_size; value = fits })
     either false is = rw is fit
 
--- what takes a telegram
+-- what is handed a telegram
 taking_fits :
     (setup : NodeSetup) (telegram : TelegramModel) (globals : Globals) (object : AnyObject)
     → IsFit setup object

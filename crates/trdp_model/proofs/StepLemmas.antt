@@ -71,7 +71,7 @@ steps_alone old new records records_then event admitted opens same appends outco
         (rw is
         (has.records_are ∙ ap (λ (o : Outcome). records_of s records ++ o.records) plain))
 
--- the same of a step, which did so where it took the event
+-- the same of a step, which did so where it accepted the event
 pub taken_alone : (old new : NodeModel) (records records_then : List RecordModel)
     (event : EventModel) (result : Result (Unit {0}) NodeFault)
     → FaultIs (refused_as (length old.slots) old.globals event) result → opened_by event ≡ []
@@ -103,7 +103,7 @@ open_outcome old new records records_then event s slot found stepped =
       records_are = rw (found, is) at stepped.records_are;
     }
 
--- what always holds holds where a step took its event
+-- what always holds holds where a step accepted its event
 pub always : (result : Result (Unit {0}) NodeFault) {P : Type 0} → P → OnOk result P
 always (Ok done) p = p
 always (Err fault) p = tt

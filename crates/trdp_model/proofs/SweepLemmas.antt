@@ -1,6 +1,6 @@
 -- A change of each slot of a node, and a change of one slot after the other.
 -- For the acts of a node on its slots in the crate above, and for `AddedSlotLemmas`.
--- By induction on the slots: the records of one slot are told apart by its number.
+-- By induction on the slots: the records of one slot are found by its number.
 use Rattle.std.proofs.Common.{zero, suc, ◌≡◌, ℕ, ◌+◌, ◌<◌, List, [], ◌∷◌}
 use Rattle.std.proofs.Common.{◌++◌, map, refl, ◌∙◌, ap, sym, arith}
 use Rattle.std.proofs.Common.{append_assoc, Some, None, true, false, Bool}

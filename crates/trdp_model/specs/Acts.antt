@@ -1,4 +1,4 @@
--- What an event leaves of an object, and what it gives for it.
+-- What an event leaves of an object, and which records result.
 use Rattle.std.specs.Prelude.{ℕ, List, [], ◌∷◌, Option, Some, None, ◌==◌, if◌then◌else◌}
 use Rattle.std.specs.List.{flat_map}
 use Rattle.trdp_model.specs.declared.any_object.AnyObject.{AnyObject}
@@ -6,12 +6,12 @@ use Rattle.trdp_model.specs.declared.fault.Refusal.{Refusal}
 use Rattle.trdp_model.specs.Records.{Content, AnswerModel, RefusedIs, Answers}
 use Rattle.trdp_model.specs.Slots.{Entry}
 
--- what is left of an object, or nothing where it ended, and the records that it gave
+-- what is left of an object, or nothing where it ended, and the records of its act
 pub record Act : Type 0 where
   pub left : Option AnyObject
   pub records : List Content
 
--- an object that goes on with that one answer
+-- an object that stays, with that one answer
 abbrev pub answers : AnyObject → AnswerModel → Act
 answers object answer = record { left = Some object; records = Answers answer ∷ [] }
 

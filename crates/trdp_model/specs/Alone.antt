@@ -1,4 +1,4 @@
--- What stands at a slot's number, an open slot or none, run by itself, and what it sees of a node's
+-- What is at a slot's number, an open slot or none, run by itself, and what it sees of a node's
 -- events.
 use Rattle.std.specs.Prelude.{◌≡◌, ℕ, List, [], ◌∷◌, ◌++◌, Option, Some, None, Bool, true, not}
 use Rattle.std.specs.Prelude.{false, ◌==◌, ◌&&◌, nat_le, nat_lt, if◌then◌else◌, Result, Ok, Err}
@@ -19,8 +19,9 @@ use Rattle.trdp_model.specs.Calls.{called}
 use Rattle.trdp_model.specs.Datagrams.{telegram_of, received_if, concerns}
 use Rattle.trdp_model.specs.Moments.{moved_to}
 
--- the fault of an event in a node of so many slots, but for want of memory; an event without one
--- is admitted
+-- the fault, other than OutOfMemory, of an event in a node of that many slots; an event without
+-- one is admitted
+-- rule: slot.full event.fault
 abbrev pub refused_as : ℕ → Globals → EventModel → Option NodeFault
 refused_as slots globals (MomentIs t) =
     if nat_lt t globals.now then Some Past else
@@ -32,7 +33,7 @@ refused_as slots globals (CallIs slot call) = if nat_le slots slot then Some NoS
 refused_as slots globals (AddSlotIs quotas) =
     if nat_le slot_limit slots then Some SlotsFull else None
 
--- the answer to an event: its fault, and without one at most want of memory
+-- the answer to an event: its fault, and without one at most OutOfMemory
 abbrev pub FaultIs : Option NodeFault → Result (Unit {0}) NodeFault → Type 0
 FaultIs None (Ok done) = Unit {0}
 FaultIs None (Err fault) = fault ≡ OutOfMemory
@@ -40,6 +41,7 @@ FaultIs (Some fault) (Ok done) = ⊥
 FaultIs (Some fault) (Err other) = other ≡ fault
 
 -- node globals after an admitted event
+-- rule: topology.set
 abbrev pub globals_after : Globals → EventModel → Globals
 globals_after globals (MomentIs t) = record globals { now = t }
 globals_after globals (TopologyIs topo) = record globals { topo = topo }
@@ -49,12 +51,12 @@ globals_after globals (DatagramIs protocol src dst bytes) = globals
 globals_after globals (CallIs slot call) = globals
 globals_after globals (AddSlotIs quotas) = globals
 
--- the slots that an admitted event opens, behind those that are there
+-- the slots that an admitted event opens, after those that are there
 abbrev pub opened_by : EventModel → List SlotState
 opened_by (AddSlotIs quotas) = empty_slot quotas ∷ []
 opened_by event = []
 
--- what the slot that it opens is told
+-- the record of the slot that it opens
 abbrev pub told_opening : EventModel → List Content
 told_opening (AddSlotIs quotas) = Answers OpenedIs ∷ []
 told_opening event = []
@@ -64,8 +66,8 @@ abbrev pub slots_then : ℕ → EventModel → ℕ
 slots_then n (AddSlotIs quotas) = if nat_lt n slot_limit then n + 1 else n
 slots_then n event = n
 
--- an event that an open slot s sees: each admitted moment, topology counts, each admitted role, the
--- datagrams that concern it, and its own calls; never that another slot is opened
+-- an event that an open slot s sees: each admitted moment, topology counters, each admitted role,
+-- the datagrams that concern it, and its own calls; never that another slot is opened
 abbrev pub is_in_view : ℕ → SlotState → Globals → EventModel → Bool
 is_in_view s slot globals (MomentIs t) = nat_le globals.now t && nat_le t last_moment
 is_in_view s slot globals (TopologyIs topo) = true
@@ -85,7 +87,7 @@ seen_effect setup slot globals (DatagramIs protocol src dst bytes) =
 seen_effect setup slot globals (CallIs s call) = called setup slot globals call
 seen_effect setup slot globals (AddSlotIs quotas) = unchanged slot
 
--- what stands at a slot's number, an open slot or none, and the records that the number gets
+-- what is at a slot's number, an open slot or none, and the records that the number gets
 pub record Standing : Type 0 where
   pub slot : Option SlotState
   pub records : List Content
@@ -95,7 +97,8 @@ abbrev pub none_there : Standing
 none_there = record { slot = None; records = [] }
 
 -- effect of an event that is seen at a number: on an open slot its own effect; where no slot is
--- open none, or one is opened there and is told it
+-- open none, or one is opened there and gets a record
+-- rule: slot.added slot.opened
 abbrev pub number_effect : NodeSetup → Option SlotState → Globals → EventModel → Standing
 number_effect setup (Some slot) globals event = record {
   slot = Some (seen_effect setup slot globals event).slot;
@@ -105,9 +108,9 @@ number_effect setup None globals (AddSlotIs quotas) =
     record { slot = Some (empty_slot quotas); records = Answers OpenedIs ∷ [] }
 number_effect setup None globals event = none_there
 
--- an event of a node with n slots that is seen at number s: by an open slot what is in its view;
--- without one the events that every slot sees, since the globals are everyone's, and that a slot is
--- opened there
+-- An event of a node with n slots that is seen at number s. An open slot sees what is in its view.
+-- Without one the events are seen that every slot sees, since all slots share the globals, and
+-- that a slot is opened there.
 abbrev pub is_seen : ℕ → ℕ → Option SlotState → Globals → EventModel → Bool
 is_seen s n (Some slot) globals event = is_in_view s slot globals event
 is_seen s n None globals (MomentIs t) = nat_le globals.now t && nat_le t last_moment
@@ -117,7 +120,7 @@ is_seen s n None globals (DatagramIs protocol src dst bytes) = false
 is_seen s n None globals (CallIs r call) = false
 is_seen s n None globals (AddSlotIs quotas) = s == n && nat_lt n slot_limit
 
--- what stands at a number after a list of events, the globals then, and all its records in order
+-- what is at a number after a list of events, the globals then, and all its records in order
 pub record Run : Type 0 where
   pub slot : Option SlotState
   pub globals : Globals
@@ -127,7 +130,7 @@ pub record Run : Type 0 where
 abbrev pub prepend : List Content → Run → Run
 prepend records run = record run { records = records ++ run.records }
 
--- what stands at a number, run by itself over a list of events
+-- what is at a number, run by itself over a list of events
 abbrev pub alone : NodeSetup → Option SlotState → Globals → List EventModel → Run
 alone setup slot globals [] = record { slot = slot; globals = globals; records = [] }
 alone setup slot globals (event ∷ events) =
@@ -145,13 +148,14 @@ view setup s n slot globals (event ∷ events) =
     (globals_after globals event) events
     else view setup s (slots_then n event) slot globals events
 
--- what stands at number s of a node with n slots, run by itself over the events that it sees
+-- what is at number s of a node with n slots, run by itself over the events that it sees
+-- rule: slot.alone
 abbrev pub alone_in_view : NodeSetup → ℕ → ℕ → Option SlotState → Globals → List EventModel
     → Run
 alone_in_view setup s n slot globals events =
     alone setup slot globals (view setup s n slot globals events)
 
--- what stands at number s after any one event of a node with n slots, and the records that it gets
+-- what is at number s after any one event of a node with n slots, and the records that it gets
 abbrev pub standing_after : NodeSetup → ℕ → ℕ → Option SlotState → Globals → EventModel
     → Standing
 standing_after setup s n slot globals event =

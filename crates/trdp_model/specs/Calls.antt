@@ -46,16 +46,19 @@ use Rattle.trdp_model.specs.Replies.{replies, queries, reply_errors, confirms, a
 use Rattle.trdp_head.specs.Limits.{pd_payload_limit}
 
 -- a time is 0 or at least 1,000 microseconds
+-- rule: time.span
 abbrev pub is_span : ℕ → Bool
 is_span span = span == 0 || nat_le 1000 span
 
 -- no such dataset, or one whose zero value, its shortest, is longer than process data carries
+-- rule: refusal.dataset
 abbrev pub dataset_refusal : NodeSetup → ℕ → Option Refusal → Option Refusal
 dataset_refusal setup dataset later =
     if not (is_dataset setup dataset) then Some NoDataset else
     if nat_lt pd_payload_limit (zero_size_of setup dataset) then Some TooLong else later
 
 -- first refusal of a publishing: the cycle, the dataset, the quota, the handles
+-- rule: refusal.publish
 abbrev pub publish_refusal : NodeSetup → SlotState → PublisherTerms → Option Refusal
 publish_refusal setup slot terms =
     if not (is_span terms.cycle) then Some Cycle else
@@ -63,6 +66,7 @@ publish_refusal setup slot terms =
 
 -- first refusal of a subscription: the supervision time, the source range, the dataset, the
 -- quota, the handles
+-- rule: refusal.subscribe
 abbrev pub subscribe_refusal : NodeSetup → SlotState → SubscriptionTerms → Option Refusal
 subscribe_refusal setup slot terms =
     if not (is_span terms.supervision) then Some Timeout else
@@ -70,17 +74,20 @@ subscribe_refusal setup slot terms =
     dataset_refusal setup terms.dataset (opening_refusal slot Subscribing)
 
 -- first refusal of a listener: the source range, the quota, the handles
+-- rule: refusal.listen
 abbrev pub listen_refusal : SlotState → MdFilter → Option Refusal
 listen_refusal slot filter =
     if nat_lt filter.high.0 filter.low.0 then Some Range else opening_refusal slot Listening
 
--- why a publisher takes no such value: more than 1432 bytes, or no value of its dataset
+-- why a publisher refuses such a value: more than 1432 bytes, or no value of its dataset
+-- rule: refusal.value
 abbrev pub value_refusal : NodeSetup → ℕ → List ℕ → Option Refusal
 value_refusal setup dataset bytes =
     if nat_lt pd_payload_limit (length bytes) then Some TooLong else
     if not (is_fitting setup dataset bytes) then Some Shape else None
 
 -- a value that isn't refused is the publisher's from now on
+-- rule: publisher.value
 abbrev pub puts_unless : Option Refusal → List ℕ → PublisherState → Act
 puts_unless (Some refusal) bytes p = refuses (Publisher p) refusal
 puts_unless None bytes p = answers (Publisher (record p { value = Some bytes })) DoneIs
@@ -91,13 +98,14 @@ puts setup bytes (Publisher p) = puts_unless (value_refusal setup p.terms.datase
 puts setup bytes object = refuses object WrongKind
 
 -- the act of an object of which one of that kind is to end
+-- rule: listener.end
 abbrev pub ends : Kind → AnyObject → Act
 ends kind object =
     if is_same_kind (kind_of object) kind
     then record { left = None; records = Answers DoneIs ∷ [] }
     else refuses object WrongKind
 
--- the refusal of a look at what is no subscription
+-- the refusal where there is no subscription to look at
 abbrev pub look_refusal : LookFault → Refusal
 look_refusal NoSuchHandle = NoHandle
 look_refusal NoSubscription = WrongKind
@@ -112,6 +120,7 @@ abbrev pub shows : AnyObject → Act
 shows object = answers object (get_answer (as_subscription object))
 
 -- a call at an object of the slot: the object acts, and where there is none the call is refused
+-- rule: refusal.handle
 abbrev pub at_entry : Option Entry → SlotState → ℕ → (AnyObject → Act) → Outcome
 at_entry None slot handle act = refused slot NoHandle
 at_entry (Some entry) slot handle act = record {
@@ -123,7 +132,7 @@ at_entry (Some entry) slot handle act = record {
 abbrev pub at_object : SlotState → ℕ → (AnyObject → Act) → Outcome
 at_object slot handle act = at_entry (entry_under handle slot.objects) slot handle act
 
--- a call that concerns no object: it is done, and gives these records
+-- a call that concerns no object: it is done, with these records
 abbrev pub told_unless : Option Refusal → SlotState → List Content → Outcome
 told_unless (Some refusal) slot records = refused slot refusal
 told_unless None slot records = record { slot = slot; records = Answers DoneIs ∷ records }

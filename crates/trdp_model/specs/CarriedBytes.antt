@@ -4,7 +4,7 @@ use Rattle.trdp_model.specs.Events.{CallModel, PutCall, NotifyCall, RequestCall,
 use Rattle.trdp_model.specs.Events.{QueryCall, EventModel, MomentIs, TopologyIs, RoleIs}
 use Rattle.trdp_model.specs.Events.{DatagramIs, CallIs, AddSlotIs}
 
--- the bytes of a call that gives a value or sends a payload; no other carries any
+-- the bytes of a call that sets a value or sends a payload; no other carries any
 abbrev pub call_bytes : CallModel → Option (List ℕ)
 call_bytes (PutCall handle bytes) = Some bytes
 call_bytes (NotifyCall terms payload) = Some payload

@@ -1,4 +1,4 @@
--- What a slot may know of the configuration, and what objects and values ask of it.
+-- What a slot may know of the configuration, and what objects and values need of it.
 use Rattle.std.specs.Prelude.{ℕ, List, Bool, ◌==◌, ◌||◌, if◌then◌else◌}
 use Rattle.trdp_dataset.specs.Datasets.{DatasetModel, is_known}
 use Rattle.trdp_dataset.specs.ZeroSizes.{zero_size}
@@ -26,7 +26,7 @@ setup_of config = record {
 abbrev pub is_dataset : NodeSetup → ℕ → Bool
 is_dataset setup dataset = dataset == 0 || is_known setup.registry dataset
 
--- how many bytes the zero value of a dataset takes; of dataset 0 none
+-- how many bytes the zero value of a dataset has; of dataset 0 none
 abbrev pub zero_size_of : NodeSetup → ℕ → ℕ
 zero_size_of setup dataset = if dataset == 0 then 0 else zero_size setup.registry dataset
 

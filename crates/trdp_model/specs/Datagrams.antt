@@ -37,7 +37,7 @@ telegram_of Pd src dst bytes =
 telegram_of Md src dst bytes =
     option_map (λ telegram. MdIs src dst telegram) (md_telegram_of bytes)
 
--- the topology counts of a telegram
+-- the topology counters of a telegram
 abbrev pub counts_of : TelegramModel → Topo
 counts_of (PdIs src dst telegram) = telegram.head.topo
 counts_of (MdIs src dst telegram) = telegram.head.topo
@@ -83,7 +83,7 @@ left_taking Replied object = Some object
 left_taking RepliedLast object = None
 left_taking (Confirmed status) object = None
 
--- the act of an object that takes a telegram
+-- the act of an object that is handed a telegram
 abbrev pub taking_act : NodeSetup → TelegramModel → Globals → Entry → Act
 taking_act setup telegram globals entry =
     let fits : Bool = fits_object setup telegram entry.object in
@@ -101,6 +101,7 @@ abbrev pub is_listening : Entry → Bool
 is_listening entry = is_same_kind (kind_of entry.object) Listening
 
 -- the handle of the listener that hears a telegram: the first of a slot's list that it is for
+-- rule: listener.first
 abbrev pub hearing : TelegramModel → Globals → List Entry → Option ℕ
 hearing telegram globals objects =
     option_map
@@ -125,6 +126,7 @@ is_acting telegram globals objects entry =
     acts_where (hearing telegram globals objects) telegram globals entry
 
 -- the objects of a slot's list that act at a telegram, by rising handle
+-- rule: delivery.order
 abbrev pub acting : TelegramModel → Globals → List Entry → List Entry
 acting telegram globals objects = filter (is_acting telegram globals objects) objects
 
@@ -137,6 +139,7 @@ after_telegram setup telegram globals objects entry =
     else entry ∷ []
 
 -- the objects of a slot that act at a telegram do so in the order of their handles
+-- rule: delivery.order
 abbrev pub handed : NodeSetup → SlotState → Globals → TelegramModel → Outcome
 handed setup slot globals telegram = record {
   slot = record slot {
@@ -173,19 +176,20 @@ received setup slot globals telegram =
     then requested slot globals telegram
     else handed setup slot globals telegram
 
--- the telegram's topology counts match the node's
+-- the telegram's topology counters match the node's
 abbrev pub is_valid_at : Globals → TelegramModel → Bool
 is_valid_at globals telegram = topo_valid (counts_of telegram) globals.topo
 
--- effect of a datagram on a slot: none where it is no telegram or its counts don't match the
--- node's
+-- effect of a datagram on a slot: none where it is no telegram or its topology counters don't
+-- match the node's
+-- rule: telegram.counters
 abbrev pub received_if : NodeSetup → SlotState → Globals → Option TelegramModel → Outcome
 received_if setup slot globals None = unchanged slot
 received_if setup slot globals (Some telegram) =
     if is_valid_at globals telegram then received setup slot globals telegram else unchanged slot
 
--- the datagram concerns the slot: it is a telegram whose counts match the node's, and it is for
--- one of the slot's objects
+-- the datagram concerns the slot: it is a telegram whose topology counters match the node's, and
+-- it is for one of the slot's objects
 abbrev pub concerns : Globals → Option TelegramModel → SlotState → Bool
 concerns globals None slot = false
 concerns globals (Some telegram) slot =

@@ -1,4 +1,4 @@
--- Events, apart from where their bytes lie.
+-- Events, apart from where their bytes are.
 use Rattle.std.specs.Prelude.{ℕ, ℤ, List, Bool}
 use Rattle.trdp_base.specs.declared.place.Place.{Place}
 use Rattle.trdp_base.specs.declared.topo.Topo.{Topo}
@@ -50,7 +50,7 @@ pub data EventModel : Type 0 where
   CallIs : (slot : ℕ) (call : CallModel) → EventModel
   AddSlotIs : (quotas : List ℕ) → EventModel
 
--- a call, apart from where its bytes lie
+-- a call, apart from where its bytes are
 abbrev pub call_model : AnyCall → CallModel
 call_model (Publish terms) = PublishCall terms
 call_model (Put handle bytes) = PutCall handle bytes.now
@@ -73,7 +73,7 @@ call_model (Confirm handle place status) = ConfirmCall handle place status
 call_model (Abort handle) = AbortCall handle
 call_model Reset = ResetCall
 
--- an event, apart from where its bytes lie
+-- an event, apart from where its bytes are
 abbrev pub event_model : Event → EventModel
 event_model (Moment t) = MomentIs t
 event_model (Topology topo) = TopologyIs topo

@@ -8,8 +8,8 @@ use Rattle.trdp_model.specs.Alone.{refused_as, globals_after, standing_after}
 use Rattle.trdp_model.specs.NodeModels.{NodeModel}
 use Rattle.trdp_model.specs.NodeModels.{MayTakeMemory}
 
--- whatever the node, it takes the event, what stands at each number and the globals stay, no number
--- gets a record, and memory is never wanting
+-- whatever the node, it accepts the event, what is at each number and the globals stay, no number
+-- gets a record, and it can't run out of memory
 pub record IsInert (event : EventModel) : Type 0 where
   pub admitted : (slots : ℕ) (globals : Globals) → refused_as slots globals event ≡ None
   pub slot : (setup : NodeSetup) (s n : ℕ) (slot : Option SlotState) (globals : Globals)

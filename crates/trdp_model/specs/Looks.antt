@@ -18,5 +18,6 @@ subscription_of None = Err NoHandle
 subscription_of (Some entry) = as_subscription entry.object
 
 -- the subscription of a handle, or why there is none
+-- rule: refusal.handle
 abbrev pub subscription_at : ℕ → List Entry → Result SubscriptionState LookFault
 subscription_at handle objects = subscription_of (entry_under handle objects)

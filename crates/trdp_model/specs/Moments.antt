@@ -25,6 +25,7 @@ abbrev pub is_due : ℕ → Entry → Bool
 is_due t entry = has_come_by t (due_of entry.object)
 
 -- the order of firing: by due moment, and of one due moment by handle
+-- rule: time.order
 abbrev pub fires_before : Entry → Entry → Bool
 fires_before a b =
     nat_lt (unwrap_or (due_of a.object) 0) (unwrap_or (due_of b.object) 0)
@@ -47,6 +48,7 @@ sends_data (Publisher p) head = value_sent p.terms.to head p.value
 sends_data object head = []
 
 -- a caller's request goes to its destination again, with its payload
+-- rule: caller.place
 abbrev pub sends_again : AnyObject → MdHead → List Content
 sends_again (Caller c) head = Sends Md c.terms.to (md_bytes head c.payload) ∷ []
 sends_again object head = []
@@ -83,6 +85,7 @@ after_moment globals entry =
 
 -- effect of the moment that the globals show: each object that is due fires once, in the order of
 -- firing
+-- rule: time.event
 abbrev pub moved_to : SlotState → Globals → Outcome
 moved_to slot globals = record {
   slot = record slot { objects = flat_map (after_moment globals) slot.objects };

@@ -50,8 +50,8 @@ pub record StepsAsAlone (old new : NodeModel) (records records_then : List Recor
       ++ (standing_after (setup_of old.config) s (length old.slots) (slice_get old.slots s)
       old.globals event).records
 
--- a list of events, as number s sees it: what stands there, the globals and the records are those
--- of what stood there run by itself
+-- a list of events, as number s sees it: what is there, the globals and the records are those of
+-- what was there, run by itself
 pub record RunsAsAlone (old new : NodeModel) (records records_then : List RecordModel)
     (events : List EventModel) (s : ℕ) : Type 0 where
   pub slot_is : slice_get new.slots s
@@ -65,7 +65,7 @@ pub record RunsAsAlone (old new : NodeModel) (records records_then : List Record
       ++ (alone_in_view (setup_of old.config) s (length old.slots) (slice_get old.slots s)
       old.globals events).records
 
--- the records of before stand first, and none is added for a number that no slot has
+-- the records of before come first, and none is added for a number that no slot has
 pub record Appends (slots : List SlotState)
     (records records_then : List RecordModel) : Type 0 where
   pub more : List RecordModel
@@ -82,8 +82,8 @@ abbrev pub IsNextDue : List SlotState → Option ℕ → Type 0
 IsNextDue slots None = (t : ℕ) → due_in t slots ≡ 0
 IsNextDue slots (Some due) = (0 < due_in due slots) × ((t : ℕ) → t < due → due_in t slots ≡ 0)
 
--- the events at which memory may be wanting: a call, a moment by which something is due, a
--- datagram that concerns a slot, the opening of a slot
+-- the events that may run out of memory: a call, a moment by which something is due, a datagram
+-- that concerns a slot, the opening of a slot
 abbrev pub MayTakeMemory : NodeModel → EventModel → Type 0
 MayTakeMemory node (MomentIs t) = 0 < due_in t node.slots
 MayTakeMemory node (TopologyIs topo) = ⊥
@@ -93,7 +93,7 @@ MayTakeMemory node (DatagramIs protocol src dst bytes) =
 MayTakeMemory node (CallIs s call) = Unit {0}
 MayTakeMemory node (AddSlotIs quotas) = Unit {0}
 
--- what stands at number s is the same in two nodes, and has got the same records since
+-- what is at number s is the same in two nodes, and has got the same records since
 pub record GetsTheSame (first second : NodeModel)
     (records records_then others others_then : List RecordModel) (s : ℕ) : Type 0 where
   pub slot_is : slice_get first.slots s ≡ slice_get second.slots s
@@ -112,13 +112,14 @@ abbrev pub GetsOutcome : NodeModel → List RecordModel → List RecordModel →
 GetsOutcome new records records_then s outcome =
     HasOutcome new.slots records records_then s outcome
 
--- the slots that are there, of which the first has the number s, after an event that the node takes
+-- the slots that are there, of which the first has the number s, after an event that the node
+-- accepts
 abbrev pub slots_after : NodeSetup → Globals → EventModel → ℕ → List SlotState → List SlotState
 slots_after setup g event s [] = []
 slots_after setup g event s (slot ∷ slots) =
     slot_after setup s slot g event ∷ slots_after setup g event (suc s) slots
 
--- the node after an event with this fault, which it takes no notice of, or with none
+-- the node after an event with this fault, which it ignores, or with none
 abbrev pub node_unless : Option NodeFault → NodeModel → EventModel → NodeModel
 node_unless (Some fault) node event = node
 node_unless None node event = record node {

@@ -1,4 +1,4 @@
--- Notifications: how one is sent, and what is told of one that is heard.
+-- Notifications: how one is sent, and what is reported of one that is heard.
 use Rattle.std.specs.Prelude.{ℕ, List, [], ◌∷◌, length, Option, Some, None, not, nat_lt}
 use Rattle.std.specs.Prelude.{if◌then◌else◌}
 use Rattle.trdp_base.specs.declared.place.Place.{Place}
@@ -17,7 +17,7 @@ use Rattle.trdp_model.specs.declared.record.Protocol.TheVariants.{Md}
 use Rattle.trdp_model.specs.Records.{Content, MessageModel, Indicates, NotifiedIs, Sends}
 use Rattle.trdp_head.specs.Limits.{md_payload_limit}
 
--- a message as a listener's slot is told of it
+-- a message as a listener's slot gets it
 abbrev pub message_of : Place → MdTelegram → MessageModel
 message_of src telegram = record {
   src = src;
@@ -27,19 +27,20 @@ message_of src telegram = record {
   payload = telegram.payload;
 }
 
--- what the slot of a listener is told of a message of that kind: of a notification all of it
+-- what the slot of a listener gets of a message of that kind: of a notification all of it
 abbrev pub heard_as : MdKind → ℕ → MessageModel → List Content
 heard_as message.Notify handle said = Indicates (NotifiedIs handle said) ∷ []
 heard_as kind handle said = []
 
--- what the slot of a listener is told of a telegram that it heard
+-- what the slot of a listener gets of a telegram that it heard
 abbrev pub heard : ℕ → TelegramModel → List Content
 heard handle (PdIs src dst telegram) = []
 heard handle (MdIs src dst telegram) =
     heard_as telegram.head.kind handle (message_of src telegram)
 
--- first refusal of a notification: topology counts that don't match the node's, and more bytes
+-- first refusal of a notification: topology counters that don't match the node's, and more bytes
 -- than message data carries
+-- rule: notification.refusal
 abbrev pub notify_refusal : Globals → NotifyTerms → List ℕ → Option Refusal
 notify_refusal globals terms payload =
     if not (topo_valid terms.topo globals.topo) then Some State else

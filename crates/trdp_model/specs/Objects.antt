@@ -40,7 +40,8 @@ dataset_of (Listener l) = None
 dataset_of (Caller c) = None
 dataset_of (Replier r) = None
 
--- what the laws of objects ask of one: of a caller that it waits for a time, of the others nothing
+-- what the laws of objects require of one: of a caller that it waits for a time, of the others
+-- nothing
 abbrev pub is_sound : AnyObject → Bool
 is_sound (Publisher p) = true
 is_sound (Subscription s) = true

@@ -1,4 +1,4 @@
--- A slot takes a new object, or refuses it.
+-- A slot gets a new object, or refuses it.
 use Rattle.std.specs.Prelude.{List, [], ◌∷◌, Option, Some, None, slice_index, nat_lt, nat_le}
 use Rattle.std.specs.Prelude.{if◌then◌else◌}
 use Rattle.trdp_model.specs.declared.any_object.AnyObject.{AnyObject}
@@ -14,18 +14,20 @@ abbrev pub answered : SlotState → AnswerModel → Outcome
 answered slot answer = record { slot = slot; records = Answers answer ∷ [] }
 
 -- a refused call changes nothing, and its one record says why
+-- rule: refusal.unchanged
 abbrev pub refused : SlotState → Refusal → Outcome
 refused slot refusal = answered slot (RefusedIs refusal)
 
--- a slot takes no new object of a kind whose quota is used up, and none once the handles up to
+-- a slot refuses a new object of a kind whose quota is used up, and any once the handles up to
 -- 2^32 - 1 are given out
+-- rule: slot.share
 abbrev pub opening_refusal : SlotState → Kind → Option Refusal
 opening_refusal slot kind =
     if nat_le (slice_index slot.quotas (kind_index kind)) (kind_count kind slot.objects)
     then Some Quota
     else if nat_lt 4294967295 slot.next then Some Exhausted else None
 
--- a new object is answered by its handle, and then gives these records
+-- a new object is answered by its handle, and then come these records
 abbrev pub opened_with : Option Refusal → SlotState → AnyObject → List Content → Outcome
 opened_with (Some refusal) slot object records = refused slot refusal
 opened_with None slot object records =

@@ -12,7 +12,7 @@ use Rattle.trdp_model.specs.declared.look.PeekFault.TheVariants.{WrongKind as Wr
 use Rattle.trdp_model.specs.Looks.{subscription_at}
 use Rattle.trdp_model.specs.Slots.{SlotState}
 
--- a look, apart from where its bytes lie
+-- a look, apart from where its bytes are
 abbrev pub peeked : Result Peek PeekFault → Result PeekModel PeekFault
 peeked (Ok peek) = Ok (peek_model peek)
 peeked (Err fault) = Err fault

@@ -15,8 +15,9 @@ use Rattle.trdp_model.specs.declared.record.Protocol.TheVariants.{Pd}
 use Rattle.trdp_model.specs.Records.{Content, DoneIs, Answers, Sends, value_sent}
 use Rattle.trdp_model.specs.Acts.{Act, refuses}
 
--- a requester whose topology counts match the node's is answered, and then its pull request goes
--- out without payload
+-- a requester whose topology counters match the node's is answered, and then its pull request
+-- goes out without payload
+-- rule: requester.counters
 abbrev pub pulls_if : Bool → RequesterState → Act
 pulls_if false r = refuses (Requester r) State
 pulls_if true r = record {
@@ -29,8 +30,10 @@ abbrev pub pulls : Globals → AnyObject → Act
 pulls globals (Requester r) = pulls_if (topo_valid r.terms.topo globals.topo) r
 pulls globals object = refuses object WrongKind
 
--- where a pull request is answered: at its reply address, at the node's own process data port, or
--- where it has no such address at the place that it came from; a message is no pull request
+-- the place to which the answer to a pull request goes: its reply address, at the node's own
+-- process data port, or where it has none the place that it came from; a message is no pull
+-- request
+-- rule: publisher.reply
 unfoldable pub answer_place : NodeSetup → TelegramModel → Place
 answer_place setup (PdIs src dst telegram) =
     if telegram.head.reply_ip.0 == 0

@@ -1,4 +1,4 @@
--- What a node gives its slots: answers, indications and telegrams.
+-- What a node sends to its slots: answers, indications and telegrams.
 use Rattle.std.specs.Prelude.{ℕ, ℤ, List, [], ◌∷◌, Option, Some, None, map, filter, ◌==◌}
 use Rattle.trdp_base.specs.declared.place.Place.{Place}
 use Rattle.trdp_base.specs.declared.session.SessionId.{SessionId}
@@ -23,7 +23,7 @@ use Rattle.trdp_model.specs.declared.record.What.{What}
 use Rattle.trdp_model.specs.declared.record.What.TheVariants.{Answer, Indication, Send}
 use Rattle.trdp_model.specs.declared.record.Record.{Record}
 
--- what a call comes to, or the opening of a slot
+-- the result of a call, or of the opening of a slot
 pub data AnswerModel : Type 0 where
   HandleIs : (handle : ℕ) → AnswerModel
   DoneIs : AnswerModel
@@ -31,7 +31,7 @@ pub data AnswerModel : Type 0 where
   RefusedIs : (refusal : Refusal) → AnswerModel
   OpenedIs : AnswerModel
 
--- what a listener's slot is told of a message: where it came from, its comId, its URIs and its
+-- what a listener's slot gets of a message: where it came from, its comId, its URIs and its
 -- payload
 pub record MessageModel : Type 0 where
   pub src : Place
@@ -40,7 +40,7 @@ pub record MessageModel : Type 0 where
   pub dest_uri : List ℕ
   pub payload : List ℕ
 
--- what a caller's slot is told of an answer: where it came from, its message type, its status, its
+-- what a caller's slot gets of an answer: where it came from, its message type, its status, its
 -- comId and its payload
 pub record ReplyModel : Type 0 where
   pub src : Place
@@ -49,11 +49,11 @@ pub record ReplyModel : Type 0 where
   pub com_id : ℕ
   pub payload : List ℕ
 
--- what a node tells a slot of its own accord: the subscription of that handle fell silent, or is
--- alive again; the listener of that handle was notified, or was asked in a session that the replier
--- is to answer, or there was no room for a replier; the caller of that handle took an answer; the
--- replier of that handle was confirmed with that status; the caller or replier of that handle is
--- over
+-- What a node reports to a slot without a call. The subscription of that handle fell silent, or is
+-- alive again. The listener of that handle was notified, or was asked in a session that the
+-- replier is to answer, or there was no room for a replier. The caller of that handle accepted an
+-- answer. The replier of that handle was confirmed with that status. The caller or replier of that
+-- handle is over.
 pub data IndicationModel : Type 0 where
   SilentIs : (handle : ℕ) → IndicationModel
   AliveIs : (handle : ℕ) → IndicationModel
@@ -72,12 +72,12 @@ pub data Content : Type 0 where
   Indicates : (indication : IndicationModel) → Content
   Sends : (protocol : Protocol) (to : Place) (telegram : List ℕ) → Content
 
--- one thing that a node gives the slot of that number
+-- one thing that a node sends to the slot of that number
 pub record RecordModel : Type 0 where
   pub slot : ℕ
   pub content : Content
 
--- an answer, apart from where its bytes lie
+-- an answer, apart from where its bytes are
 abbrev pub answer_model : AnyAnswer → AnswerModel
 answer_model (Handle handle) = HandleIs handle
 answer_model Done = DoneIs
@@ -85,7 +85,7 @@ answer_model (Value peek) = ValueIs (peek_model peek)
 answer_model (Refused refusal) = RefusedIs refusal
 answer_model Opened = OpenedIs
 
--- a message, apart from where its bytes lie
+-- a message, apart from where its bytes are
 abbrev pub message_model : Message → MessageModel
 message_model m = record {
   src = m.src;
@@ -95,7 +95,7 @@ message_model m = record {
   payload = m.payload.now;
 }
 
--- an answer to a request, apart from where its bytes lie
+-- an answer to a request, apart from where its bytes are
 abbrev pub reply_model : Reply → ReplyModel
 reply_model r = record {
   src = r.src;
@@ -105,7 +105,7 @@ reply_model r = record {
   payload = r.payload.now;
 }
 
--- an indication, apart from where its bytes lie
+-- an indication, apart from where its bytes are
 abbrev pub indication_model : AnyIndication → IndicationModel
 indication_model (Silent handle) = SilentIs handle
 indication_model (Alive handle) = AliveIs handle
@@ -117,13 +117,13 @@ indication_model (Replied handle reply) = RepliedIs handle (reply_model reply)
 indication_model (Confirmed handle status) = ConfirmedIs handle status
 indication_model (Closed handle reason) = ClosedIs handle reason
 
--- what a record says, apart from where its bytes lie
+-- what a record says, apart from where its bytes are
 abbrev pub content_model : What → Content
 content_model (Answer answer) = Answers (answer_model answer)
 content_model (Indication indication) = Indicates (indication_model indication)
 content_model (Send protocol to telegram) = Sends protocol to telegram.now
 
--- a record, apart from where its bytes lie
+-- a record, apart from where its bytes are
 abbrev pub record_model : Record → RecordModel
 record_model r = record { slot = r.slot; content = content_model r.what }
 
@@ -136,7 +136,7 @@ abbrev pub labelled : ℕ → List Content → List RecordModel
 labelled s contents =
     map (λ c. let r : RecordModel = record { slot = s; content = c } in r) contents
 
--- a value that is sent to that place under this header; without a value nothing is sent
+-- a value that is sent to that place with this header; without a value nothing is sent
 abbrev pub value_sent : Place → PdHead → Option (List ℕ) → List Content
 value_sent to head None = []
 value_sent to head (Some bytes) = Sends Pd to (pd_bytes head bytes) ∷ []

@@ -1,5 +1,5 @@
--- The answers to requests: how a replier sends one, how a caller confirms one, and what is told of
--- those that come in.
+-- The answers to requests: how a replier sends one, how a caller confirms one, and what is
+-- reported of those that are received.
 use Rattle.std.specs.Prelude.{ℕ, ℤ, pos, List, [], ◌∷◌, ◌++◌, length, Option, Some, None, Bool}
 use Rattle.std.specs.Prelude.{true, false, not}
 use Rattle.std.specs.Prelude.{int_lt, int_le, nat_lt, if◌then◌else◌}
@@ -28,7 +28,7 @@ use Rattle.trdp_model.specs.Records.{Indicates, Sends}
 use Rattle.trdp_model.specs.Acts.{Act, refuses}
 use Rattle.trdp_head.specs.Limits.{md_payload_limit}
 
--- an answer as its caller's slot is told of it
+-- an answer as its caller's slot gets it
 abbrev pub reply_of : Place → MdTelegram → ReplyModel
 reply_of src telegram = record {
   src = src;
@@ -38,12 +38,12 @@ reply_of src telegram = record {
   payload = telegram.payload;
 }
 
--- what the slot of a caller is told of an answer that the caller took
+-- what the slot of a caller gets of an answer that the caller accepted
 abbrev pub replied : ℕ → TelegramModel → List Content
 replied handle (PdIs src dst telegram) = []
 replied handle (MdIs src dst telegram) = Indicates (RepliedIs handle (reply_of src telegram)) ∷ []
 
--- what a slot is told of a caller or replier that is over
+-- what a slot gets of a caller or replier that is over
 abbrev pub closing : ℕ → Reason → Content
 closing handle reason = Indicates (ClosedIs handle reason)
 
@@ -54,19 +54,22 @@ is_unanswered AwaitConfirm = false
 
 -- first refusal of a reply: the replier has answered by a query, a status below 0, more bytes than
 -- message data carries
+-- rule: replier.status
 abbrev pub reply_refusal : AnyReplier → ℤ → List ℕ → Option Refusal
 reply_refusal r status payload =
     if not (is_unanswered r.stage) then Some State else
     if int_lt status (pos 0) then Some Status else
     if nat_lt md_payload_limit (length payload) then Some TooLong else None
 
--- first refusal of a query: the same, and behind the first a timeout below 1,000 microseconds
+-- first refusal of a query: the same, and after the first a timeout below 1,000 microseconds
+-- rule: refusal.query
 abbrev pub query_refusal : AnyReplier → ℤ → ℕ → List ℕ → Option Refusal
 query_refusal r status timeout payload =
     if not (is_unanswered r.stage) then Some State else
     if nat_lt timeout 1000 then Some Timeout else reply_refusal r status payload
 
 -- first refusal of an error: the replier has answered by a query, a status of 0 or more
+-- rule: replier.error
 abbrev pub error_refusal : AnyReplier → ℤ → Option Refusal
 error_refusal r status =
     if not (is_unanswered r.stage) then Some State else
@@ -82,6 +85,7 @@ answers_unless None r left head payload = record {
 }
 
 -- the act of an object that is to reply: a replier ends with it
+-- rule: replier.again
 abbrev pub replies : ℕ → ℤ → List ℕ → AnyObject → Act
 replies com_id status payload (Replier r) =
     answers_unless (reply_refusal r status payload) r None
@@ -104,7 +108,7 @@ reply_errors com_id status (Replier r) =
     (answer_with r message.Error com_id status 0) []
 reply_errors com_id status object = refuses object WrongKind
 
--- a caller that gave these records, and is over if it has all that it waits for
+-- a caller with these records, which is over if it has all that it waits for
 abbrev pub concluded : Option Reason → ℕ → AnyCaller → List Content → Act
 concluded None handle c records = record { left = Some (Caller c); records = records }
 concluded (Some reason) handle c records =
@@ -118,6 +122,7 @@ confirms_unless None handle place status c =
     (Answers DoneIs ∷ Sends Md place (md_bytes (confirm_of c.terms status) []) ∷ [])
 
 -- first refusal of a confirmation: the place awaits none, a status below 0
+-- rule: confirmation.refusal
 abbrev pub confirm_refusal : AnyCaller → Place → ℤ → Option Refusal
 confirm_refusal c place status =
     if not (awaits c.answers place) then Some State else
@@ -130,6 +135,7 @@ confirms handle place status (Caller c) =
 confirms handle place status object = refuses object WrongKind
 
 -- the act of an object that is to be given up: a caller or a replier ends, and nothing is sent
+-- rule: session.abort
 abbrev pub aborts : AnyObject → Act
 aborts (Caller c) = record { left = None; records = Answers DoneIs ∷ [] }
 aborts (Replier r) = record { left = None; records = Answers DoneIs ∷ [] }

@@ -35,6 +35,7 @@ is_of_session session (Replier r) = r.session.0 == session.0
 is_of_session session object = false
 
 -- an object of that kind is open in that session: a slot may have a caller and a replier in one
+-- rule: caller.session
 abbrev pub has_session : Kind → SessionId → List Entry → Bool
 has_session kind session objects =
     list_any
@@ -42,12 +43,14 @@ has_session kind session objects =
     objects
 
 -- more repeats than two are refused
+-- rule: caller.retries
 abbrev pub retries_refusal : CallerTerms → Option Refusal
 retries_refusal terms = if nat_lt 2 terms.retries then Some Retries else None
 
--- first refusal of a request: topology counts that don't match the node's, a timeout below 1,000
--- microseconds, more than eight places expected, more bytes than message data carries, a session
--- that a caller of the slot has, the quota, the handles, more repeats than two
+-- First refusal of a request: topology counters that don't match the node's, a timeout below 1,000
+-- microseconds, more than eight places expected, more bytes than message data carries. Then a
+-- session that a caller of the slot has, the quota, the handles, more repeats than two.
+-- rule: caller.refusal
 abbrev pub request_refusal : SlotState → Globals → CallerTerms → List ℕ → Option Refusal
 request_refusal slot globals terms payload =
     if not (topo_valid terms.topo globals.topo) then Some State else
@@ -62,7 +65,8 @@ abbrev pub request_sent : CallerTerms → List ℕ → Content
 request_sent terms payload = Sends Md terms.to (md_bytes (request_of terms 0) payload)
 
 -- what a slot makes of a request of a session that no replier of it has: a new replier, which is
--- told with its handle; where it takes none, it is told that
+-- reported with its handle; where it refuses one, that is reported
+-- rule: replier.overrun
 abbrev pub asked_unless : Option Refusal → SlotState → ℕ → Globals → Place → MdTelegram → Outcome
 asked_unless (Some refusal) slot listener globals src telegram =
     record { slot = slot; records = Indicates (OverrunIs listener) ∷ [] }
@@ -76,6 +80,7 @@ asked_unless None slot listener globals src telegram = record {
 
 -- what a slot makes of a request that its listener of that handle heard: nothing where a replier
 -- of the session is open, whichever peer it belongs to
+-- rule: replier.repeat
 abbrev pub asked : SlotState → ℕ → Globals → Place → MdTelegram → Outcome
 asked slot listener globals src telegram =
     if has_session Replying telegram.head.session slot.objects

@@ -34,8 +34,8 @@ abbrev pub showing_in : Option SlotState → ℕ → Result SubscriptionState Va
 showing_in None handle = Err NoSlot
 showing_in (Some slot) handle = showing_of (subscription_at handle slot.objects)
 
--- the answer to a look at that subscription: the item whose bytes it shows, or want of memory for
--- it; without such a subscription the reason
+-- the answer to a look at that subscription: the item whose bytes it shows, or OutOfMemory;
+-- without such a subscription the reason
 abbrev pub ShowsItem : NodeSetup → Result SubscriptionState ValueFault → Result Item ValueFault
     → Type 0
 ShowsItem setup (Ok s) (Ok item) = Spells setup.registry s.terms.dataset (model_of item) s.value

@@ -6,6 +6,7 @@ use Rattle.trdp_model.specs.Kinds.{kind_of, is_same_kind}
 use Rattle.trdp_model.specs.Records.{Content}
 
 -- the most slots of a node
+-- rule: slot.limit
 abbrev pub slot_limit : ℕ
 slot_limit = 16
 
@@ -38,7 +39,8 @@ unchanged slot = record { slot = slot; records = [] }
 abbrev pub empty_slot : List ℕ → SlotState
 empty_slot quotas = record { quotas = quotas; next = 1; objects = [] }
 
--- a slot that begins anew: it has no objects, and its next handle goes on
+-- a slot that is reset: it has no objects, and its next handle stays
+-- rule: slot.reset
 abbrev pub emptied : SlotState → SlotState
 emptied slot = record slot { objects = [] }
 
@@ -50,7 +52,8 @@ kind_count kind objects = count_by (λ entry. is_same_kind (kind_of entry.object
 abbrev pub entry_under : ℕ → List Entry → Option Entry
 entry_under handle objects = find (λ entry. entry.handle == handle) objects
 
--- a new object gets the next handle and stands last
+-- a new object gets the next handle and comes last
+-- rule: slot.handle
 abbrev pub with_new_object : SlotState → AnyObject → SlotState
 with_new_object slot object =
     record slot {

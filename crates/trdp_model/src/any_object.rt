@@ -7,7 +7,7 @@ use trdp_pd::{Fired, Object, Publisher, Requester, Subscription, Taken};
 /// An object of any kind.
 #[derive(Drop)]
 pub enum AnyObject {
-    /// It sends process data in its cycle, and where it is asked for it.
+    /// It sends process data in its cycle, and as the reply to a pull request.
     Publisher(Publisher),
     /// It keeps the latest process data of one comId.
     Subscription(Subscription),
@@ -17,7 +17,7 @@ pub enum AnyObject {
     Listener(Listener),
     /// It sent a request and waits for its answers.
     Caller(Caller),
-    /// It was sent a request and owes an answer.
+    /// It has a request that was received and owes an answer.
     Replier(Replier),
 }
 

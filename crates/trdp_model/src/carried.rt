@@ -61,7 +61,7 @@ impl<'a> Call<'a> {
     }
 
     /// The call with these bytes in place of its own; as it is, where it carries none. Each arm
-    /// makes the call anew, since the two borrow for different times.
+    /// makes a new call, since the two borrow for different times.
     fn with_bytes<'b>(&self, bytes: &'b [u8]) -> Call<'b>
         ensures { call_model result ≡ call_with_bytes bytes.now (call_model self.now) }
     {

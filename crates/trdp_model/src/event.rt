@@ -18,13 +18,15 @@ pub enum Call<'a> {
     /// Refused: the first that applies of `Cycle`, `NoDataset`, `TooLong` (the dataset's zero
     /// value is more than 1,432 bytes), `Quota` and `Exhausted`.
     Publish(PublisherTerms),
-    /// Gives the publisher of that handle a new value.
+    /// Sets the value of the publisher of that handle.
     ///
     /// # Errors
     /// Refused: the first that applies of `NoHandle`, `WrongKind`, `TooLong` (above 1,432 bytes)
     /// and `Shape`.
     Put {
+        /// The handle of the publisher.
         handle: u32,
+        /// The value, at most 1,432 bytes.
         bytes: &'a [u8],
     },
     /// Ends the publisher of that handle.
@@ -32,6 +34,7 @@ pub enum Call<'a> {
     /// # Errors
     /// Refused: the first that applies of `NoHandle` and `WrongKind`.
     Unpublish {
+        /// The handle of the publisher.
         handle: u32,
     },
     /// Makes a subscription, and answers its handle.
@@ -46,6 +49,7 @@ pub enum Call<'a> {
     /// # Errors
     /// Refused: the first that applies of `NoHandle` and `WrongKind`.
     Get {
+        /// The handle of the subscription.
         handle: u32,
     },
     /// Ends the subscription of that handle.
@@ -53,6 +57,7 @@ pub enum Call<'a> {
     /// # Errors
     /// Refused: the first that applies of `NoHandle` and `WrongKind`.
     Unsubscribe {
+        /// The handle of the subscription.
         handle: u32,
     },
     /// Makes a requester, and answers its handle.
@@ -64,8 +69,9 @@ pub enum Call<'a> {
     ///
     /// # Errors
     /// Refused: the first that applies of `NoHandle`, `WrongKind`, and `State` where its topology
-    /// counts don't match the node's.
+    /// counters don't match the node's.
     Pull {
+        /// The handle of the requester.
         handle: u32,
     },
     /// Ends the requester of that handle.
@@ -73,9 +79,10 @@ pub enum Call<'a> {
     /// # Errors
     /// Refused: the first that applies of `NoHandle` and `WrongKind`.
     ClosePull {
+        /// The handle of the requester.
         handle: u32,
     },
-    /// Makes a listener of the messages that the filter lets in, and answers its handle.
+    /// Makes a listener to the messages that the filter passes, and answers its handle.
     ///
     /// # Errors
     /// Refused: the first that applies of `Range`, `Quota` and `Exhausted`.
@@ -85,15 +92,16 @@ pub enum Call<'a> {
     /// # Errors
     /// Refused: the first that applies of `NoHandle` and `WrongKind`.
     Unlisten {
+        /// The handle of the listener.
         handle: u32,
     },
     /// Sends one notification, after the answer; nothing is opened.
     ///
     /// # Errors
-    /// Refused: the first that applies of `State` where its topology counts don't match the
+    /// Refused: the first that applies of `State` where its topology counters don't match the
     /// node's, and `TooLong` (above 65,388 bytes).
     Notify {
-        /// Under which header it is sent, and where to.
+        /// With which header it is sent, and where to.
         terms: NotifyTerms,
         /// What it says, at most 65,388 bytes.
         payload: &'a [u8],
@@ -102,12 +110,15 @@ pub enum Call<'a> {
     /// deadlines, as often as its terms say, while no answer came.
     ///
     /// # Errors
-    /// Refused: the first that applies of `State` where its topology counts don't match the
-    /// node's, `Timeout` (below 1,000 microseconds), `Expected` (above 8), `TooLong` (above 65,388
-    /// bytes), `SessionOpen` where a caller of the slot has the session, `Quota`, `Exhausted` and
-    /// `Retries` (above 2).
+    /// Refused: the first that applies of these.
+    /// - `State`: its topology counters don't match the node's.
+    /// - `Timeout`: it is below 1,000 microseconds.
+    /// - `Expected`: more than 8 repliers are expected.
+    /// - `TooLong`: the payload has more than 65,388 bytes.
+    /// - `SessionOpen`: a caller of the slot has the session.
+    /// - `Quota`, `Exhausted`, and `Retries` (above 2).
     Request {
-        /// Under which header it is sent, where to, and for what it waits.
+        /// With which header it is sent, where to, and for what it waits.
         terms: CallerTerms,
         /// What it says, at most 65,388 bytes.
         payload: &'a [u8],
@@ -118,6 +129,7 @@ pub enum Call<'a> {
     /// Refused: the first that applies of `NoHandle`, `WrongKind`, `State` where it awaits a
     /// confirmation, `Status` (below 0) and `TooLong` (above 65,388 bytes).
     Reply {
+        /// The handle of the replier.
         handle: u32,
         /// The comId that the reply carries.
         com_id: u32,
@@ -134,6 +146,7 @@ pub enum Call<'a> {
     /// confirmation already, `Timeout` (below 1,000 microseconds), `Status` (below 0) and
     /// `TooLong` (above 65,388 bytes).
     Query {
+        /// The handle of the replier.
         handle: u32,
         /// The comId that the query carries.
         com_id: u32,
@@ -151,6 +164,7 @@ pub enum Call<'a> {
     /// Refused: the first that applies of `NoHandle`, `WrongKind`, `State` where it awaits a
     /// confirmation, and `Status` (0 or above).
     ReplyError {
+        /// The handle of the replier.
         handle: u32,
         /// The comId that the error carries.
         com_id: u32,
@@ -164,6 +178,7 @@ pub enum Call<'a> {
     /// Refused: the first that applies of `NoHandle`, `WrongKind`, `State` where no query of that
     /// place awaits a confirmation, and `Status` (below 0).
     Confirm {
+        /// The handle of the caller.
         handle: u32,
         /// The address and port that the query came from.
         place: Place,
@@ -175,22 +190,23 @@ pub enum Call<'a> {
     /// # Errors
     /// Refused: the first that applies of `NoHandle` and `WrongKind`.
     Abort {
+        /// The handle of the caller or replier.
         handle: u32,
     },
-    /// Lets the slot begin anew: all its objects end, and its next handle goes on. Nothing is sent,
-    /// and nothing told but that it is done. It is never refused.
+    /// Resets the slot: all its objects end, and its next handle stays. Nothing is sent, and the
+    /// only record is the answer `Done`. It is never refused.
     Reset,
 }
 
 /// One event, the atomic step of a node (profile).
 #[derive(Clone, Copy, Debug)]
 pub enum Event<'a> {
-    /// Time has come to that moment, in microseconds, at most 2^62.
+    /// Time has come to that moment, in microseconds since the node began, at most 2^62.
     ///
     /// # Errors
     /// `Past` before the node's latest moment, `TooLate` above 2^62.
     Moment(u64),
-    /// The train's network has these topology counts.
+    /// The train's network has these topology counters.
     Topology(Topo),
     /// The node is the leader of that redundancy group, 1 to 255, from now on, or a follower in
     /// it.
@@ -203,9 +219,9 @@ pub enum Event<'a> {
         /// Whether the node leads it from now on.
         leader: bool,
     },
-    /// These bytes came in over the protocol's port, from one place to another.
+    /// These bytes were received at the protocol's port, from one socket address to another.
     Datagram {
-        /// Over which protocol's port.
+        /// At which protocol's port.
         kind: Protocol,
         /// The address and port that it came from.
         src: Place,
@@ -225,7 +241,7 @@ pub enum Event<'a> {
         call: Call<'a>,
     },
     /// An application starts that had no slot: the next slot is opened for it, empty, with these
-    /// quotas, and is told so. No other slot is told anything.
+    /// quotas, and gets the answer `Opened`. No other slot gets a record.
     ///
     /// # Errors
     /// `SlotsFull` where there are [`SLOTS_MAX`] slots.

@@ -1,4 +1,4 @@
-//! Why an event isn't taken, and why a call is refused.
+//! Why an event is rejected, and why a call is refused.
 
 ghost use Rattle.std.specs.Prelude.{◌≡◌, ◌≢◌, Err, true, false};
 
@@ -6,8 +6,8 @@ use crate::look::LookFault;
 use std::alloc::AllocError;
 use thiserror::Error;
 
-/// Why an event is not admitted: the first of these that applies (profile). Node and outbox stay
-/// as they were.
+/// Why an event is rejected: the first of these that applies (profile). Node and outbox stay as
+/// they were.
 #[derive(Clone, Copy, Debug, PartialEq, Eq, Error)]
 pub enum NodeFault {
     /// The node has no slot of that number.
@@ -41,7 +41,7 @@ impl From<AllocError> for NodeFault {
     }
 }
 
-/// Whether the answer is want of memory.
+/// Whether the answer is `OutOfMemory`.
 pub fn is_out_of_memory(answer: &Result<(), NodeFault>) -> bool
     ensures yes { result ≡ true → answer.now ≡ Err NodeFault.OutOfMemory }
     ensures no { result ≡ false → answer.now ≢ Err NodeFault.OutOfMemory }

@@ -9,7 +9,7 @@ use crate::any_object::AnyObject;
 /// A kind of object of IEC 61375-2-3, in the order of a slot's quotas (profile).
 #[derive(Clone, Copy, Debug, PartialEq, Eq)]
 pub enum Kind {
-    /// It sends process data in its cycle, and where it is asked for it.
+    /// It sends process data in its cycle, and as the reply to a pull request.
     Publisher,
     /// It keeps the latest process data of one comId.
     Subscription,
@@ -19,7 +19,7 @@ pub enum Kind {
     Listener,
     /// It sent a request and waits for its answers.
     Caller,
-    /// It was sent a request and owes an answer.
+    /// It has a request that was received and owes an answer.
     Replier,
 }
 

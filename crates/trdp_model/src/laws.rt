@@ -22,9 +22,9 @@ ghost use Rattle.trdp_model.specs.Alone.{refused_as, plain_effect, slot_after, r
 ghost use Rattle.trdp_model.specs.Alone.{view, alone_in_view};
 ghost use Rattle.trdp_model.specs.Inert.{IsInert};
 
-/// The law of equal views: two lists of events of which the same is seen at a slot's number come to
-/// the same for that number, whether a slot is open there or not, whatever else they hold, and
-/// however many slots the two nodes have.
+/// The law of equal views: two lists of events of which the same is seen at a slot's number have
+/// the same result for that number. This holds whether a slot is open there or not, whatever else
+/// they contain, and however many slots the two nodes have.
 pub fn same_view()
     ensures { (setup : NodeSetup) (s n m : ℕ) (slot : Option SlotState) (globals : Globals)
         (events others : List EventModel)
@@ -34,7 +34,7 @@ pub fn same_view()
 {}
 
 /// The law of the view: an admitted event that a slot doesn't see does nothing in that slot's own
-/// model. What the slot sees comes to the same as all events, the calls of other slots left out.
+/// model. What the slot sees has the same result as all events without the calls of other slots.
 #[tactic(auto, using(crate::proofs::ViewLemmas::view_is_plain))]
 pub fn view_drops_nothing()
     ensures { (setup : NodeSetup) (s n : ℕ) (slot : SlotState) (globals : Globals)
@@ -55,15 +55,15 @@ pub fn requests_are_for_listeners()
         → kind_of object ≡ Listening }
 {}
 
-/// A datagram that is no telegram of its port's protocol is inert: the node takes it, no slot and
-/// no globals change, no slot gets a record, and memory is never wanting.
+/// A datagram that is no telegram of its port's protocol is inert: the node accepts it, no slot
+/// and no globals change, no slot gets a record, and it can't run out of memory.
 pub fn malformed_datagrams_are_inert()
     ensures { (protocol : Protocol) (src dst : Place) (bytes : List ℕ)
         → telegram_of protocol src dst bytes ≡ None
         → IsInert (DatagramIs protocol src dst bytes) }
 {}
 
-/// A process data telegram that tells of an error (`Pe`) is for no object, and as inert.
+/// A process data telegram that reports an error (`Pe`) is for no object, and as inert.
 pub fn error_telegrams_are_inert()
     ensures { (src dst : Place) (bytes : List ℕ) (telegram : PdTelegram)
         → pd_telegram_of bytes ≡ Some telegram → telegram.head.kind ≡ Error

@@ -1,8 +1,8 @@
-//! The rules of a node: its events and records, what an object of any kind does, and what a slot
-//! makes of a call, of a moment and of a datagram, alone and in its view.
+//! The rules of a node: its events and records, what an object of any kind does, and what a call,
+//! a moment or a datagram does to a slot.
 //!
-//! An [`Event`] is what happens to a node, a [`Call`] among them what a slot's application asks
-//! for; a [`Record`] is what a slot gets. An [`AnyObject`] is an object of one of six [`Kind`]s.
+//! An [`Event`] is what happens to a node; one of them is a [`Call`] of a slot's application. A
+//! [`Record`] is what a slot gets. An [`AnyObject`] is an object of one of six [`Kind`]s.
 //!
 //! ```text
 //! Event::Call { slot: 0, call: Call::Put { handle: 1, bytes: &[0x0a] } }
@@ -10,12 +10,13 @@
 //! ```
 //!
 //! The types of this crate are what a program hands to a node and gets from it. Its definitions
-//! (`specs/`) say what each slot gets; they know no pool, no index, no heap and no outbox, so that
-//! whoever wants to know what a node promises reads this crate alone. Its functions are laws over
-//! these definitions, which do nothing when they run.
+//! (`specs/`) say what each slot gets. They know no pool, no index, no heap and no outbox, so a
+//! reader who asks what a node promises reads this crate alone. The crates above, up to the node
+//! of `trdp_engine`, state their contracts with these definitions.
 //!
-//! What no contract can say is that a node keeps these rules: that stands on its own calls, in the
-//! crates above.
+//! Proved: laws over the definitions, as functions that do nothing when they run
+//! ([`same_view`], [`view_drops_nothing`] and others). That a node keeps these rules is stated by
+//! its own contracts, in the crates above.
 #![tactic(auto)]
 
 mod any_object;

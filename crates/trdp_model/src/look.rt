@@ -1,4 +1,4 @@
-//! Why a look at a subscription shows nothing.
+//! Why there is nothing to see of a subscription.
 
 use thiserror::Error;
 

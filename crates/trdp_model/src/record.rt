@@ -1,4 +1,4 @@
-//! What a node gives a slot: answers, indications and telegrams.
+//! What a node sends to a slot: answers, indications and telegrams.
 
 ghost use Rattle.std.specs.Prelude.{◌≡◌};
 ghost use Rattle.trdp_model.specs.Records.{message_model, reply_model};
@@ -19,7 +19,7 @@ pub enum Protocol {
     Md,
 }
 
-/// What a call comes to, or the opening of a slot.
+/// The result of a call, or of the opening of a slot.
 #[derive(Clone, Copy, Debug)]
 pub enum Answer<'a> {
     /// A new object has this handle.
@@ -34,23 +34,23 @@ pub enum Answer<'a> {
     Opened,
 }
 
-/// A message that came in, as a listener's slot is told of it.
+/// A message that was received, as a listener's slot gets it.
 #[derive(Clone, Copy, Debug)]
 pub struct Message<'a> {
     /// The address and port that it came from.
     pub src: Place,
     /// comId: what message this is (IEC 61375-2-3).
     pub com_id: u32,
-    /// sourceURI: who says it; empty for nobody in particular (IEC 61375-2-3).
+    /// sourceUri: who says it; empty for no one in particular (IEC 61375-2-3).
     pub source_uri: Uri,
-    /// destinationURI: to whom it is said; empty for nobody in particular (IEC 61375-2-3).
+    /// destinationUri: to whom it is said; empty for no one in particular (IEC 61375-2-3).
     pub dest_uri: Uri,
     /// What it says, at most 65,388 bytes.
     pub payload: &'a [u8],
 }
 
 impl<'a> Message<'a> {
-    /// A message of this place, as a listener's slot is told of it.
+    /// A message from this place, as a listener's slot gets it.
     pub fn of(src: Place, view: &MdView<'a>) -> Message<'a>
         ensures { message_model result
             ≡ message_of src (record { head = view.now.head; payload = view.now.payload.now }) }
@@ -65,7 +65,7 @@ impl<'a> Message<'a> {
     }
 }
 
-/// An answer to a request that came in, as its caller's slot is told of it.
+/// An answer to a request that was received, as its caller's slot gets it.
 #[derive(Clone, Copy, Debug)]
 pub struct Reply<'a> {
     /// The address and port that it came from.
@@ -81,7 +81,7 @@ pub struct Reply<'a> {
 }
 
 impl<'a> Reply<'a> {
-    /// An answer of this place, as its caller's slot is told of it.
+    /// An answer from this place, as its caller's slot gets it.
     pub fn of(src: Place, view: &MdView<'a>) -> Reply<'a>
         ensures { reply_model result
             ≡ reply_of src (record { head = view.now.head; payload = view.now.payload.now }) }
@@ -96,7 +96,7 @@ impl<'a> Reply<'a> {
     }
 }
 
-/// What a node tells a slot of its own accord.
+/// What a node reports to a slot without a call.
 #[derive(Clone, Copy, Debug)]
 pub enum Indication<'a> {
     /// The subscription of this handle had no telegram within its supervision time.
@@ -116,9 +116,9 @@ pub enum Indication<'a> {
         /// The request.
         message: Message<'a>,
     },
-    /// The listener of this handle heard a request, and the slot takes no further replier.
+    /// The listener of this handle heard a request, and the slot has no room for another replier.
     Overrun(u32),
-    /// The caller of this handle took an answer to its request.
+    /// The caller of this handle accepted an answer to its request.
     Replied(u32, Reply<'a>),
     /// The query of the replier of this handle was confirmed with this status; the replier is over.
     Confirmed(u32, i32),
@@ -129,13 +129,13 @@ pub enum Indication<'a> {
 /// What a record says.
 #[derive(Clone, Copy, Debug)]
 pub enum What<'a> {
-    /// The answer of a call.
+    /// The answer to a call, or to the opening of the slot.
     Answer(Answer<'a>),
     /// What happened to an object.
     Indication(Indication<'a>),
     /// A telegram to send to that place.
     Send {
-        /// Over which protocol's port.
+        /// From which protocol's port.
         kind: Protocol,
         /// The address and port that it goes to.
         to: Place,
@@ -144,7 +144,7 @@ pub enum What<'a> {
     },
 }
 
-/// One thing that a node gives the slot of that number.
+/// One thing that a node sends to the slot of that number.
 #[derive(Clone, Copy, Debug)]
 pub struct Record<'a> {
     /// The number of the slot that it is for, from 0.

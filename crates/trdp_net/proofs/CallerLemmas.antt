@@ -1,6 +1,6 @@
 -- A caller's answers: who made them, which await a confirmation, and when all have come.
 -- For `CallerMoveLemmas`, `CallerConfirmLemmas`, `HeardLemmas` and `HeardTelegramLemmas`.
--- Each answer is kept with the move that told of it, by induction on the list.
+-- Each answer is kept with the move that reported it, by induction on the list.
 use Rattle.std.proofs.Common.{◌≡◌, ◌≤◌, List, [], ◌∷◌, length, map}
 use Rattle.std.proofs.Common.{Bool, true, false, refl, sym, subst, inl}
 use Rattle.std.proofs.Common.{inr, ◌++◌, arith}

@@ -1,6 +1,7 @@
--- A caller that is done has confirmed each query that it was told of.
+-- A caller that is done has confirmed each query that was reported to it.
 -- For `no_early_done`.
--- By: what it was told of is among its answers, one of each place, and each of these is settled.
+-- By: what was reported to it is among its answers, one of each place, and each of these is
+-- settled.
 use Rattle.std.proofs.Common.{◌≡◌, ℕ, List, [], ◌∷◌, Option, Some, Bool, true, false, refl, sym}
 use Rattle.std.proofs.Common.{◌∙◌, subst, ap, inl, inr, slice_get}
 use Rattle.std.specs.Prelude.{◌||◌}
@@ -47,7 +48,7 @@ answer_there (a ∷ answers) place is =
     here false same found later =
         let there = later found in (there.0, inr there.1, there.2)
 
--- before the move that closes it, a caller had been told of no more than its answers
+-- before the move that closes it, no more than its answers had been reported to a caller
 covers_before : (m : Move) (past : List Move) (at : Spot) (by : DoneBy past m at)
     → m.node ≡ at.node → HeardBefore m past → Covers (all_replied at past) (Caller by.c)
 covers_before m past at by node_is heard = known
@@ -70,7 +71,7 @@ covers_before m past at by node_is heard = known
         by.held.slot.objects (record { handle = at.handle; object = Caller by.c })
         heard_at.covers by.held.held
 
--- what a caller was told of, by the move that closes it too, is among its answers
+-- what was reported to a caller, by the move that closes it too, is among its answers
 told_answered : (m : Move) (past : List Move) (at : Spot) (by : DoneBy past m at)
     → m.node ≡ at.node → IsExplained m past → HeardBefore m past → (answer : ReplyModel)
     → Ever (IsToldOf at answer) (m ∷ past) → has_answered by.answers answer.src ≡ true
@@ -88,7 +89,7 @@ told_answered m past at by node_is explained heard answer (inr told) =
         (covers_before m past at by node_is heard answer.src (by.keeps answer.src is))
         (ever_place at answer past told))
 
--- each query that a caller that is done was told of is confirmed
+-- each query that was reported to a caller that is done is confirmed
 query_confirmed : (m : Move) (past : List Move) (at : Spot) (by : DoneBy past m at)
     → AreDistinct (all_replied at (m ∷ past)) → (answer : ReplyModel)
     → has_answered by.answers answer.src ≡ true → Ever (IsToldOf at answer) (m ∷ past)

@@ -1,6 +1,6 @@
 -- The example's run, computed.
--- For `the_promises_are_not_empty`, its clauses on what is sent, told and shown.
--- Each is an equation between a computed run and a text that stands in specs/Example: `refl`.
+-- For `the_promises_are_not_empty`, its clauses on what is sent, reported and shown.
+-- Each is an equation between a computed run and a text of specs/Example: `refl`.
 use Rattle.std.proofs.Common.{◌≡◌, ℕ, List, [], ◌∷◌, Some, None, true, refl, inl, slice_get, sym}
 use Rattle.std.proofs.Common.{subst}
 use Rattle.std.specs.Prelude.{replicate}
@@ -25,12 +25,12 @@ use Rattle.trdp_net.proofs.Computing.{computing}
 use Rattle.trdp_net.proofs.ExamplePremiseLemmas.{once_requested, fresh}
 use Rattle.trdp_net.proofs.TurnLemmas.{get_in, was_told}
 
--- what is told at each step
+-- what is reported at each step
 pub turns_are : turns_of example_history ≡ turns_in example_rows
 unfolding computing
 turns_are = refl
 
--- what stands beside a step was told
+-- what the row of a step says was reported
 pub told_at : (i : ℕ) (turn : ToldAtMove) (content : Content)
     → slice_get (turns_in example_rows) i ≡ Some turn → In content turn.told
     → WasTold turn.node 0 content example_history

@@ -1,6 +1,6 @@
--- What the objects of a slot were told of, and one that acts by its handle.
+-- What was reported to the objects of a slot, and one that acts by its handle.
 -- For `no_invented_reply`, its clause `distinct`, through `HeardSlotLemmas`.
--- What each handle was told of is a function beside the slot; an act changes it at one handle.
+-- What was reported to each handle is a function beside the slot; an act changes it at one handle.
 use Rattle.std.proofs.Common.{◌≡◌, ℕ, ◌<◌, ◌≤◌, ◌+◌, List, [], ◌∷◌, ◌++◌, Option, Some, None}
 use Rattle.std.proofs.Common.{Bool, true, false, refl, ap, sym, ◌∙◌, subst, arith, inl, inr}
 use Rattle.std.proofs.Common.{filter}
@@ -36,7 +36,7 @@ abbrev pub AreOnly : List Entry → Type 0
 AreOnly [] = Unit {0}
 AreOnly (e ∷ es) = IsOnly e.handle es × AreOnly es
 
--- what the objects of a slot were told of: nothing at handles that aren't given out yet, each
+-- what was reported to the objects of a slot: nothing at handles that aren't used yet, to each
 -- object no more than it knows, and no place twice
 pub record HeardSlot (old : ℕ → List Place) (slot : SlotState) : Type 0 where
   pub only : AreOnly slot.objects
@@ -45,7 +45,7 @@ pub record HeardSlot (old : ℕ → List Place) (slot : SlotState) : Type 0 wher
   pub covers : Each (λ e. Covers (old e.handle) e.object) slot.objects
   pub distinct : (h : ℕ) → AreDistinct (old h)
 
--- the same where what was told is the same at each handle
+-- the same where what was reported is the same at each handle
 pub heard_same : (old new : ℕ → List Place) (slot : SlotState) → ((h : ℕ) → old h ≡ new h)
     → HeardSlot old slot → HeardSlot new slot
 heard_same old new slot same h = record {
@@ -60,7 +60,7 @@ heard_same old new slot same h = record {
   distinct = λ n. subst (λ (ps : List Place). AreDistinct ps) (same n) (h.distinct n);
 }
 
--- what is told by records one after the other
+-- what is reported by records one after the other
 pub told_append : (h : ℕ) (xs ys : List Content)
     → replied_in h (xs ++ ys) ≡ replied_in h xs ++ replied_in h ys
 told_append h [] ys = refl
@@ -137,7 +137,7 @@ pub left_lefts : (e : Entry) (left : Option AnyObject) → LeftsOf e (entry_left
 left_lefts e None = tt
 left_lefts e (Some x) = refl
 
--- each entry stays, changes or goes
+-- each entry stays, changes or is removed
 pub entries_heard : (old : ℕ → List Place) (new : ℕ → List Place) (slot : SlotState)
     (after : Entry → List Entry) → ((e : Entry) → LeftsOf e (after e))
     → ((e : Entry) → In e slot.objects → Covers (old e.handle) e.object
@@ -159,7 +159,7 @@ entries_heard old new slot after lefts covers fresh distinct h = record {
   distinct = distinct;
 }
 
--- what is left of an entry knows what it was told of
+-- what is left of an entry knows what was reported to it
 pub left_covers : (new : ℕ → List Place) (e : Entry) (left : Option AnyObject)
     → CoversLeft (new e.handle) left → Each (λ f. Covers (new f.handle) f.object)
     (entry_left e left)
@@ -210,7 +210,7 @@ quiet_flat_map f (e ∷ es) quiet h =
     quiet_append (f e) (flat_map f es) (quiet e (inl refl))
     (quiet_flat_map f es (λ g is. quiet g (inr is))) h
 
--- a slot with a new object, of which nothing was told
+-- a slot with a new object, of which nothing was reported
 pub opened_heard : (old : ℕ → List Place) (slot : SlotState) (refusal : Option Refusal)
     (object : AnyObject) (records : List Content) → IsQuiet records
     → ((ps : List Place) → ps ≡ [] → Covers ps object) → HeardSlot old slot

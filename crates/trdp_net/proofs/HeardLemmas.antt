@@ -1,4 +1,4 @@
--- Of which places an object is told at a moment and at a call: of none.
+-- From which places an answer is reported to an object at a moment and at a call: from none.
 -- For `no_invented_reply`, its clause `distinct`, through `HeardSlotLemmas`.
 -- By cases on the kind of object: no record of these acts is the indication of an answer.
 use Rattle.std.proofs.Common.{◌≡◌, ℕ, ℤ, List, [], ◌∷◌, map, Option, Some, None, Bool, true}
@@ -42,7 +42,7 @@ use Rattle.trdp_model.specs.Replies.{reply_refusal, query_refusal, error_refusal
 use Rattle.trdp_net.specs.Promises.{replied_in, IsNew}
 use Rattle.trdp_net.proofs.CallerLemmas.{answered_before}
 
--- what was told to an object is among what it knows to have been answered
+-- what was reported to an object is among what it knows to have been answered
 abbrev pub Covers : List Place → AnyObject → Type 0
 Covers places (Publisher p) = Unit {0}
 Covers places (Subscription u) = Unit {0}
@@ -56,11 +56,11 @@ abbrev pub CoversLeft : List Place → Option AnyObject → Type 0
 CoversLeft places None = Unit {0}
 CoversLeft places (Some x) = Covers places x
 
--- the records tell of no answer
+-- the records report no answer
 abbrev pub IsQuiet : List Content → Type 0
 IsQuiet records = (h : ℕ) → replied_in h records ≡ []
 
--- an act that tells of no answer
+-- an act that reports no answer
 pub record QuietAct (places : List Place) (act : Act) : Type 0 where
   pub covers : CoversLeft places act.left
   pub quiet : IsQuiet act.records
@@ -69,7 +69,7 @@ answers_quiet : (places : List Place) (x : AnyObject) (answer : AnswerModel) →
     → QuietAct places (answers x answer)
 answers_quiet places x answer covers = record { covers = covers; quiet = λ h. refl }
 
--- a value that is sent tells of no answer
+-- a value that is sent reports no answer
 pub value_quiet : (to : Place) (head : PdHead) (value : Option (List ℕ))
     → IsQuiet (value_sent to head value)
 value_quiet to head None h = refl

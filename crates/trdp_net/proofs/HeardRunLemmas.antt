@@ -1,6 +1,6 @@
--- No two answers that one caller is told of come from one place.
+-- No two answers that are reported to one caller come from one place.
 -- For `no_invented_reply`, its clause `distinct`, and for `no_early_done`, through `DoneLemmas`.
--- By induction on the steps: what a caller was told of is among what it knows, no place twice.
+-- By induction on the steps: what was reported to a caller is among what it knows, no place twice.
 use Rattle.std.proofs.Common.{◌≡◌, ℕ, zero, suc, ◌+◌, List, [], ◌∷◌, ◌++◌, map, Option, Some}
 use Rattle.std.proofs.Common.{None, Bool, true, false, refl, sym, ◌∙◌, subst, arith}
 use Rattle.std.proofs.Common.{slice_get, length}
@@ -27,7 +27,7 @@ use Rattle.trdp_net.proofs.HeardEntryLemmas.{HeardSlot, heard_same}
 use Rattle.trdp_net.proofs.HeardSlotLemmas.{effect_heard}
 use Rattle.trdp_net.proofs.Explained.{spot}
 
--- what was told at a slot, or nothing where there is none
+-- what was reported at a slot, or nothing where there is none
 abbrev pub HeardAt : (ℕ → List Place) → Option SlotState → Type 0
 HeardAt old None = (h : ℕ) → old h ≡ []
 HeardAt old (Some slot) = HeardSlot old slot
@@ -37,12 +37,12 @@ abbrev slot_in : Option NetNode → ℕ → Option SlotState
 slot_in None s = None
 slot_in (Some node) s = slice_get node.slots s
 
--- what the objects of each slot of the move's node had been told of before it
+-- what had been reported to the objects of each slot of the move's node before it
 abbrev pub HeardBefore : Move → List Move → Type 0
 HeardBefore m past =
     (s : ℕ) → HeardAt (λ h. all_replied (spot m.node s h) past) (slice_get m.before.slots s)
 
--- what the objects of each slot were told of in the history, and had been before each move
+-- what was reported to the objects of each slot in the history, and before each move
 pub record HeardNetwork (w : Network) : Type 0 where
   pub nodes : (k s : ℕ) → HeardAt (λ h. all_replied (spot k s h) w.history)
       (slot_in (slice_get w.nodes k) s)
@@ -53,7 +53,7 @@ heard_at_same : (old new : ℕ → List Place) (slot : Option SlotState)
 heard_at_same old new None same is = λ h. sym (same h) ∙ is h
 heard_at_same old new (Some slot) same is = heard_same old new slot same is
 
--- a slot that is opened, of which nothing was told
+-- a slot that is opened, of which nothing was reported
 opened_heard_by : (event : EventModel) (j : ℕ) (old : ℕ → List Place)
     → ((h : ℕ) → old h ≡ []) → HeardAt old (slice_get (opened_by event) j)
 opened_heard_by (AddSlotIs quotas) zero old none = record {
@@ -239,7 +239,7 @@ run_heard : (w : Network) (steps : List Step) → HeardNetwork w
 run_heard w [] heard = heard
 run_heard w (step ∷ steps) heard = run_heard (network_step w step) steps (step_heard w step heard)
 
--- nothing was told at first
+-- nothing was reported at first
 opened_slot_heard : (slots : List SlotModel) (s : ℕ)
     → HeardAt (λ h. []) (slice_get (map (λ q. empty_slot q.quotas) slots) s)
 opened_slot_heard [] s = λ h. refl
@@ -261,7 +261,7 @@ heard_distinct : (old : ℕ → List Place) (slot : Option SlotState) → HeardA
 heard_distinct old None is h = subst (λ (ps : List Place). AreDistinct ps) (sym (is h)) tt
 heard_distinct old (Some slot) is h = is.distinct h
 
--- no caller is told of two answers of one place
+-- no two answers of one place are reported to a caller
 pub all_distinct : (configs : List ConfigModel) (steps : List Step) (caller : Spot)
     → AreDistinct (all_replied caller (history configs steps))
 all_distinct configs steps caller =
@@ -272,7 +272,7 @@ all_distinct configs steps caller =
     caller.slot)
     caller.handle
 
--- before each move of a run, each object had been told of no more than it knew
+-- before each move of a run, no more had been reported to each object than it knew
 pub always_heard : (configs : List ConfigModel) (steps : List Step)
     → Always HeardBefore (history configs steps)
 always_heard configs steps =

@@ -1,4 +1,4 @@
--- Of which places the objects of a slot are told in one move.
+-- From which places answers are reported to the objects of a slot in one move.
 -- For `no_invented_reply`, its clause `distinct`, through `HeardRunLemmas`.
 -- By cases on the event: at a telegram one more place at most for each object, and else none.
 use Rattle.std.proofs.Common.{◌≡◌, ℕ, ◌<◌, ◌≤◌, List, [], ◌∷◌, ◌++◌, Option, Some, None}
@@ -62,7 +62,7 @@ use Rattle.trdp_net.proofs.HeardEntryLemmas.{IsOnly, AreOnly, HeardSlot, told_ap
 use Rattle.trdp_net.proofs.HeardEntryLemmas.{LeftsOf, left_lefts, entries_heard, left_covers}
 use Rattle.trdp_net.proofs.HeardEntryLemmas.{new_heard, opened_heard, moved_heard, at_handle_heard}
 
--- several objects act, and each may be told of an answer of its own
+-- several objects act, and an answer of its own may be reported to each
 
 told_none : (h : ℕ) (test : Entry → Bool) (act : Entry → Act) (es : List Entry) → IsOnly h es
     → ((e : Entry) → In e es → (e.handle == h) ≡ false → replied_in h (act e).records ≡ [])

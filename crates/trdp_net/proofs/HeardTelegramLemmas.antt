@@ -1,6 +1,6 @@
--- Of which places an object is told at a telegram: of one more at most.
+-- From which places an answer is reported to an object at a telegram: from one more at most.
 -- For `no_invented_reply`, its clause `distinct`, through `HeardSlotLemmas`.
--- Only a caller tells of an answer, and only of one whose place isn't yet among its answers.
+-- Only a caller reports an answer, and only one whose place isn't yet among its answers.
 use Rattle.std.proofs.Common.{◌≡◌, ℕ, List, [], ◌∷◌, ◌++◌, Bool, true}
 use Rattle.std.proofs.Common.{false, refl, sym, subst, arith}
 use Rattle.std.specs.Prelude.{not, ◌==◌, ◌&&◌, if◌then◌else◌}
@@ -46,8 +46,8 @@ use Rattle.trdp_md.proofs.AnswerLemmas.{flipped}
 
 -- at a telegram
 
--- an act that may tell of an answer to the object of its handle, from a place of which nothing was
--- told yet
+-- an act that may report an answer to the object of its handle, from a place from which nothing
+-- was reported yet
 pub record HeardAct (places : List Place) (handle : ℕ) (act : Act) : Type 0 where
   pub covers : CoversLeft (replied_in handle act.records ++ places) act.left
   pub distinct : AreDistinct (replied_in handle act.records ++ places)

@@ -35,7 +35,7 @@ use Rattle.trdp_md.specs.Sessions.{AreApart}
 use Rattle.trdp_net.proofs.Explained.{spot, DataBy, MessageBy, SentBy, ToldBy}
 use Rattle.trdp_net.specs.Provenance.{Each}
 
--- a request as it is told of, at the node of that place
+-- a request as it is reported, at the node of that place
 abbrev pub said_by : Place → CallerTerms → List ℕ → MessageModel
 said_by home terms payload = record {
   src = home;

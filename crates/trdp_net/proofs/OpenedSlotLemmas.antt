@@ -1,6 +1,6 @@
--- What stands behind a slot of a node: the slot before the event; nothing, where it is opened.
+-- What a slot of a node was before the event: a slot, or nothing where it is opened.
 -- For `RunLemmas`, `TypedRunLemmas` and `HeardRunLemmas`, which go from a slot to a node.
--- By the number of the slot: below the count before, or past it, and then it is empty.
+-- By the number of the slot: below their number before, or past it, and then it is empty.
 use Rattle.std.proofs.Common.{◌≡◌, ℕ, zero, suc, ◌+◌, List, [], ◌∷◌, map, Some, refl, ap, sym}
 use Rattle.std.proofs.Common.{subst, arith, inl, inr, slice_get}
 use Rattle.trdp_dataset.specs.Configs.{ConfigModel, SlotModel}

@@ -59,7 +59,7 @@ in_flat_map f (z ∷ xs) x y (inl e) there =
 in_flat_map f (z ∷ xs) x y (inr is) there =
     in_right y (f z) (flat_map f xs) (in_flat_map f xs x y is there)
 
--- of each item of what each item gives
+-- of each item of what each item yields
 pub each_flat_map : {A B : Type 0} (P : B → Type 0) (f : A → List B) (xs : List A)
     → ((x : A) → In x xs → Each P (f x)) → Each P (flat_map f xs)
 each_flat_map P f [] all = tt

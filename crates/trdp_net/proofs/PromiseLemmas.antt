@@ -60,7 +60,7 @@ told_by past m k s content is gives =
     (each_in (ToldBy past m m.node s) (effect_in m s gives.slot).records content
     (is s gives.slot gives.slot_is) gives.given)
 
--- the handle that a request is given
+-- the handle that a request gets
 opened_handle : (refusal : Option Refusal) (slot : SlotState) (object : AnyObject)
     (terms : CallerTerms) (payload : List ℕ) (h : ℕ)
     → In (Answers (HandleIs h))

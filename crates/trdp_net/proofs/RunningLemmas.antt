@@ -27,13 +27,13 @@ use Rattle.trdp_net.specs.declared.told.Told.{Told}
 use Rattle.trdp_net.proofs.TieLemmas.{moves_so}
 use Rattle.trdp_net.proofs.TellingLemmas.{slots_sent, all_sent_push, latest_push}
 
--- an event that was taken has no fault
+-- an event that was accepted has no fault
 pub admitted_by : (fault : Option NodeFault) (done : Unit {0}) → FaultIs fault (Ok done)
     → fault ≡ None
 admitted_by None done is = refl
 admitted_by (Some fault) done is = absurd is
 
--- a node that steps takes the event as one of the network, and tells what it told
+-- a node that steps accepts the event as one of the network, and reports the same
 pub takes : (old new : NodeModel) (before : List RecordModel) (event : EventModel) (told : Told)
     → StepsSo old new before told.out.records event
     → before ≡ []
@@ -78,7 +78,7 @@ takes old new before event told steps none home slots = record {
         ++ (if s == length old.slots then told_opening event else [])) none
     telling k s (Some slot) at = each s slot at
 
--- what a running network shows once a node has taken an event
+-- what a running network shows once a node has accepted an event
 abbrev pub then_shown : NetworkState → List NetNode → Told → NetworkState
 then_shown old nodes told = record {
   nodes = nodes;
@@ -160,7 +160,7 @@ pushed old nodes events events_then told w is same shows = record {
       (sym (ap latest is ∙ latest_push events told)) shows.told;
 }
 
--- a telegram that the node takes, and that reaches it, is delivered
+-- a telegram that the node accepts, and that reaches it, is delivered
 pub delivers_so : (result : Result Told NetworkFault) (old new : List NetNode) (k : ℕ) (x : Sent)
     (seen : NetNode) → slice_get old k ≡ Some seen
     → reaches x.to (place_of x.protocol seen.setup) ≡ true
@@ -179,7 +179,7 @@ delivers_so (Ok told) old new k x seen at reached taken =
           e reached;
     }
 
--- an event that a node refuses changes nothing
+-- an event that a node rejects changes nothing
 unless_kept : (refusal : Option NodeFault) (w : Network) (k : ℕ) (node : NetNode)
     (event : EventModel) (fault : NetworkFault) → node_fault refusal ≡ Some fault
     → moves_unless refusal w k node event ≡ w

@@ -1,6 +1,6 @@
 -- One slot in one move.
 -- For the five promises of `laws`, through `EffectLemmas` and `CallEffectLemmas`.
--- By induction on the entries: each act keeps its own entry, and what it tells is explained.
+-- By induction on the entries: each act keeps its own entry, and what it reports is explained.
 use Rattle.std.proofs.Common.{◌≡◌, ℕ, List, [], ◌∷◌, Option, Some}
 use Rattle.std.proofs.Common.{None, Bool, true, false, refl, subst, arith, inl, inr}
 use Rattle.std.proofs.Common.{slice_get, filter}
@@ -35,7 +35,7 @@ use Rattle.trdp_net.proofs.Explained.{spot, ToldBy}
 use Rattle.trdp_net.proofs.TypedMoveLemmas.{IsTypedObject, IsTypedEntry}
 use Rattle.trdp_net.specs.Provenance.{Each}
 
--- what slot s of the node has after the move, and what it is told
+-- what slot s of the node has after the move, and what is reported to it
 pub record OutcomeKept (past : List Move) (m : Move) (s : ℕ) (outcome : Outcome) : Type 0 where
   pub objects : Each (EntryKept (m ∷ past) m.before.setup m.node s) outcome.slot.objects
   pub tells : Each (ToldBy past m m.node s) outcome.records
@@ -67,7 +67,7 @@ refused_kept past m s slot refusal h = record {
   tells = (tt, tt);
 }
 
--- an entry that stays or goes
+-- an entry that stays or is removed
 left_kept : (past : List Move) (setup : NodeSetup) (k s : ℕ) (e : Entry) (left : Option AnyObject)
     → StaysKept past setup (spot k s e.handle) left
     → Each (EntryKept past setup k s) (entry_left e left)

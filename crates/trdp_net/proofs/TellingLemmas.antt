@@ -35,7 +35,7 @@ abbrev pub Remains : List Sent → ℕ → List Sent → ℕ → Type 0
 Remains all which rest left =
     (more : List Sent) → slice_get (all ++ more) which ≡ slice_get (rest ++ more) left
 
--- what a look through the first of the rest comes to
+-- the result of a search through the first of the rest
 pub went : (all whole first rest : List Sent) (which left : ℕ) (sought : Sought)
     → Remains all which whole left → whole ≡ first ++ rest → SoughtIn first left sought
     → (more : List Sent) → slice_get (all ++ more) which ≡ sought_past sought (rest ++ more)

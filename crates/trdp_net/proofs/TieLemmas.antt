@@ -222,7 +222,7 @@ one_node configs steps own m n is_m is_n same =
     own m.node n.node at_m.0 at_n.0 at_m.1 at_n.1
     (sym (ap (place_of Md) at_m.2) ∙ (same ∙ ap (place_of Md) at_n.2))
 
--- what stands at each number after an event that the node takes
+-- what each number has after an event that the node accepts
 after_at : (setup : NodeSetup) (globals : Globals) (event : EventModel) (n k : ℕ)
     (old : List SlotState) → n ≡ k + length old → refused_as n globals event ≡ None
     → (j s : ℕ) → s ≡ k + j
@@ -289,7 +289,7 @@ moves_so old new records records_then event h = record {
         ≡ record { setup = d; globals = i; slots = ys }
     nodes c d g i xs ys cd gi xy = cc
 
--- what is known of an event that was taken
+-- what is known of an event that was accepted
 pub admits : (result : Result (Unit {0}) NodeFault) (fault : Option NodeFault) (G S M : Type 0)
     → FaultIs fault result → OnOk result G → OnOk result S → (fault ≡ None → G → S → M)
     → OnOk result M

@@ -1,4 +1,4 @@
--- An answer that a caller was told of is known by its place: it was told of no other from there.
+-- An answer that was reported to a caller is known by its place: no other was reported from there.
 -- For `no_early_done`, through `DoneLemmas`.
 -- By induction on the records and on the moves, since no place is among those of it twice.
 use Rattle.std.proofs.Common.{◌≡◌, ℕ, List, [], ◌∷◌, ◌++◌, Option, Bool, true, false}
@@ -55,7 +55,7 @@ distinct_parts p (q ∷ ps) qs distinct (inl same) second =
 distinct_parts p (q ∷ ps) qs distinct (inr first) second =
     distinct_parts p ps qs distinct.1 first second
 
--- the place of an answer that the records tell of
+-- the place of an answer that the records report
 replied_place : (h : ℕ) (answer : ReplyModel) (records : List Content)
     → In (Indicates (RepliedIs h answer)) records → In answer.src (replied_in h records)
 replied_place h answer [] is = absurd is
@@ -75,7 +75,7 @@ replied_place h answer (first ∷ records) (inr is) =
     (in_right answer.src (replied_in h (first ∷ [])) (replied_in h records)
     (replied_place h answer records is))
 
--- the records tell of one answer from a place
+-- the records report one answer from a place
 one_reply : (h : ℕ) (a b : ReplyModel) (records : List Content)
     → AreDistinct (replied_in h records) → a.src ≡ b.src
     → In (Indicates (RepliedIs h a)) records → In (Indicates (RepliedIs h b)) records → a ≡ b
@@ -106,7 +106,7 @@ one_reply h a b (c ∷ records) distinct same first second =
     either (inr in_a) (inr in_b) parts later =
         later (distinct_rest (replied_in h (c ∷ [])) (replied_in h records) parts) in_a in_b
 
--- the records of the caller's slot at a move that told it of an answer
+-- the records of the caller's slot at a move that reported an answer to it
 told_records : (at : Spot) (m : Move) (past : List Move) (answer : ReplyModel)
     → IsToldOf at answer m past
     → In (Indicates (RepliedIs at.handle answer))
@@ -116,7 +116,7 @@ told_records at m past answer gives =
     (λ (o : Option SlotState). In (Indicates (RepliedIs at.handle answer)) (told_in at.slot m o))
     (sym gives.slot_is) gives.given
 
--- the places that a caller is told of at a move of its node
+-- the places of the answers that are reported to a caller at a move of its node
 replied_here : (at : Spot) (m : Move) → m.node ≡ at.node
     → replied_at at m
     ≡ replied_in at.handle (told_in at.slot m (slice_get m.before.slots at.slot))
@@ -130,7 +130,7 @@ told_place at m past answer gives =
     (replied_place at.handle answer (told_in at.slot m (slice_get m.before.slots at.slot))
     (told_records at m past answer gives))
 
--- the place of an answer that a caller was ever told of
+-- the place of an answer that was ever reported to a caller
 pub ever_place : (at : Spot) (answer : ReplyModel) (h : List Move) → Ever (IsToldOf at answer) h
     → In answer.src (all_replied at h)
 ever_place at answer [] told = absurd told
@@ -140,7 +140,7 @@ ever_place at answer (m ∷ past) (inl gives) =
 ever_place at answer (m ∷ past) (inr told) =
     in_right answer.src (replied_at at m) (all_replied at past) (ever_place at answer past told)
 
--- of one place a caller was told of one answer
+-- one answer of one place was reported to a caller
 pub one_answer : (at : Spot) (a b : ReplyModel) (h : List Move)
     → AreDistinct (all_replied at h) → a.src ≡ b.src
     → Ever (IsToldOf at a) h → Ever (IsToldOf at b) h → a ≡ b

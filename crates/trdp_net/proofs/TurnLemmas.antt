@@ -1,6 +1,6 @@
--- What a turn of a history says was told.
+-- What a turn of a history says was reported.
 -- For `the_promises_are_not_empty`, by `ExampleRunLemmas`.
--- By induction on the history: a turn is the image of a move, which gave what it tells.
+-- By induction on the history: a turn is the image of a move, which recorded what it reports.
 use Rattle.std.proofs.Common.{◌≡◌, ℕ, zero, suc, List, [], ◌∷◌, ◌++◌, Option, None, Some, refl}
 use Rattle.std.proofs.Common.{ap, sym, subst, inl, inr, slice_get}
 use Rattle.std.specs.Prelude.{◌⊎◌}
@@ -24,7 +24,7 @@ in_append x (y ∷ xs) ys (inl is) = inl (inl is)
 in_append x (y ∷ xs) ys (inr is) =
     elim (in_append x xs ys is) [ inl first ↦ inl (inr first) | inr second ↦ inr second ]
 
--- what was told at a move was given there
+-- what was reported at a move was recorded there
 given : (m : Move) (found : Option SlotState) (told : List Content) (content : Content)
     → slice_get m.before.slots 0 ≡ found → told_in 0 m found ≡ told → In content told
     → Gives m.node 0 content m
@@ -37,7 +37,7 @@ given m (Some slot) told content found_is told_is is = record {
   given = subst (λ all. In content all) (sym told_is) is;
 }
 
--- what a turn of the history tells was told
+-- what a turn of the history reports was reported
 pub was_told : (past : List Move) (turn : ToldAtMove) (content : Content)
     → In turn (turns_of past) → In content turn.told → WasTold turn.node 0 content past
 was_told [] turn content is there = absurd is

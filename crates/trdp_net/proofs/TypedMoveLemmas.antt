@@ -1,6 +1,6 @@
 -- Objects, calls and moves that send what their fields hold.
 -- For the promises that need `AreTypedSteps`; the other modules Typed.. show that moves are so.
--- A record for each kind: the bounds of what stands in its terms.
+-- A record for each kind: the bounds of what its terms contain.
 use Rattle.std.specs.Prelude.{◌≡◌, ℕ, ◌<◌, ◌≤◌, ◌^◌, List, length, Some, slice_get, FitsSigned}
 use Rattle.std.specs.Int.{w32}
 use Rattle.trdp_base.specs.Uris.{IsUri}

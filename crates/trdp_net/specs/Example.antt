@@ -23,7 +23,7 @@ use Rattle.trdp_net.specs.ExampleTerms.{any_message, notify_terms, caller_terms,
 use Rattle.trdp_net.specs.ExampleTerms.{notice_told, request_told, query_told, value_bytes}
 use Rattle.trdp_net.specs.ExampleTerms.{notice_bytes, request_bytes, query_bytes, confirm_bytes}
 
--- a step, and what the slot of its node is told at it
+-- a step, and what is reported to the slot of its node at it
 pub record Row : Type 0 where
   pub step : Step
   pub told : List Content
@@ -62,7 +62,7 @@ request_rows =
     ∷ tells (DeliveryAt 1 2) []
     ∷ []
 
--- the replier queries; the query comes twice, and is told once
+-- the replier queries; the query comes twice, and is reported once
 abbrev pub query_rows : List Row
 query_rows =
     tells (CallAt 1 0 (QueryCall 3 3001 (pos 0) 1000000 (8 ∷ 9 ∷ [])))
@@ -106,7 +106,7 @@ node_of_step (RoleAt node group leader) = node
 node_of_step (DeliveryAt node which) = node
 node_of_step (AddSlotAt node quotas) = node
 
--- what slot 0 of a node was told at a move of it
+-- what was reported to slot 0 of a node at a move of the node
 pub record ToldAtMove : Type 0 where
   pub node : ℕ
   pub told : List Content
@@ -130,7 +130,7 @@ abbrev pub telegram : Protocol → Place → Place → List ℕ → Sent
 telegram protocol from to bytes =
     record { protocol = protocol; bytes = bytes; from = from; to = to }
 
--- slot s of node k was told this at some move
+-- this was reported to slot s of node k at some move
 abbrev pub WasTold : ℕ → ℕ → Content → List Move → Type 0
 WasTold k s content past = Ever (λ m before. Gives k s content m) past
 

@@ -1,4 +1,4 @@
--- What the calls of the example say, and what is sent and told of them.
+-- What the calls of the example say, and what is sent and reported at them.
 use Rattle.std.specs.Prelude.{ℕ, List, [], ◌∷◌, ◌++◌, replicate, pos, None}
 use Rattle.std.specs.List.{flat_map}
 use Rattle.trdp_base.specs.declared.place.Place.{Place}
@@ -48,7 +48,7 @@ messages_0 = record { ip = record { 0 = 0x0a000001 }; port = 17225 }
 abbrev pub messages_1 : Place
 messages_1 = record { ip = record { 0 = 0x0a000002 }; port = 17225 }
 
--- topology counts of 0, as addresses of 0 below, stand for any
+-- topology counters of 0 mean any, and so do addresses of 0 below
 abbrev pub any_topo : Topo
 any_topo = record { etb = 0; op_trn = 0 }
 
@@ -128,7 +128,7 @@ caller_terms = record {
   dest_uri = brake;
 }
 
--- what is told of the notification, of the request, and of the query that answers it
+-- what is reported of the notification, of the request, and of the query that answers it
 abbrev pub notice_told : MessageModel
 notice_told = record {
   src = messages_0;

@@ -50,22 +50,22 @@ ValuesArePut w =
     → In entry slot.objects → entry.object ≡ Subscription u → u.state ≡ Valid
     → Ever (IsPut u.terms.filter.com_id u.value) w.history
 
--- the caller that is told of an answer, and that this answer was made to its own request
+-- the caller that an answer is reported to, and that this answer was made to its own request
 pub record IsReplyMade (m : Move) (past : List Move) (at : Spot) (answer : ReplyModel)
     : Type 0 where
   pub c : AnyCaller
   pub held : Held at (Caller c) m
   pub answered : Ever (IsAnsweredTo at c.terms.session answer) past
 
--- no invented reply: each answer that a caller is told of was made to its request
+-- no invented reply: each answer that is reported to a caller was made to its request
 abbrev pub RepliesAreMade : Move → List Move → Type 0
 RepliesAreMade m past =
     (at : Spot) (answer : ReplyModel)
     → Gives at.node at.slot (Indicates (RepliedIs at.handle answer)) m
     → IsReplyMade m past at answer
 
--- the replier that is told of a confirmation had queried, and a caller of its session confirmed
--- it: the place of the replier's node, from the address of the replier's peer
+-- the replier that a confirmation is reported to had queried, and a caller of its session
+-- confirmed it: for the place of the replier's node, from the address of the replier's peer
 pub record IsConfirmMade (m : Move) (past : List Move) (at : Spot) (status : ℤ) : Type 0 where
   pub r : AnyReplier
   pub held : Held at (Replier r) m
@@ -75,26 +75,26 @@ pub record IsConfirmMade (m : Move) (past : List Move) (at : Spot) (status : ℤ
   pub confirmed :
       Ever (IsConfirmedBySome r.session home (place_of Md m.before.setup) status) past
 
--- no invented confirmation: each that a replier is told of was made by a caller of its session
+-- no invented confirmation: each that is reported to a replier was made by a caller of its session
 abbrev pub ConfirmsAreMade : Move → List Move → Type 0
 ConfirmsAreMade m past =
     (at : Spot) (status : ℤ)
     → Gives at.node at.slot (Indicates (ConfirmedIs at.handle status)) m
     → IsConfirmMade m past at status
 
--- an answer that the caller was told of, and confirmed if it was a query
+-- an answer that was reported to the caller, and that it confirmed if it was a query
 pub record IsSettled (past : List Move) (at : Spot) (session : SessionId) (home : Place)
     (a : Answer) : Type 0 where
   pub replied : Ever (IsReplied at session a.place a.kind) past
   pub confirmed : a.kind ≡ message.Query → Ever (IsConfirmedAs at session home a.place) past
 
--- this caller was told of this answer
+-- this answer was reported to this caller
 abbrev pub IsToldOf : Spot → ReplyModel → Move → List Move → Type 0
 IsToldOf at answer m past = Gives at.node at.slot (Indicates (RepliedIs at.handle answer)) m
 
--- as many places as expected have answered, and at least one; and each query that the caller was
--- told of is confirmed, however many answers it expected. The move that closes the caller may be
--- the one that tells the last answer or confirms the last query
+-- as many places as expected have answered, and at least one; and each query that was reported to
+-- the caller is confirmed, however many answers it expected. The move that closes the caller may
+-- be the one that reports the last answer or confirms the last query
 pub record IsDoneDue (m : Move) (past : List Move) (at : Spot) : Type 0 where
   pub c : AnyCaller
   pub held : Held at (Caller c) m
@@ -109,13 +109,13 @@ pub record IsDoneDue (m : Move) (past : List Move) (at : Spot) : Type 0 where
       → Ever (IsConfirmedAs at c.terms.session (place_of Md m.before.setup) answer.src)
       (m ∷ past)
 
--- no early completion: a caller is told `Done` once nothing is wanted any more
+-- no early completion: `Done` is reported to a caller once nothing is expected any more
 abbrev pub DoneIsDue : Move → List Move → Type 0
 DoneIsDue m past =
     (at : Spot) → Gives at.node at.slot (Indicates (ClosedIs at.handle Done)) m
     → IsDoneDue m past at
 
--- no invented notification: each that a listener is told of was made by a granted Notify
+-- no invented notification: each that is reported to a listener was made by a granted Notify
 abbrev pub NoticesAreMade : Move → List Move → Type 0
 NoticesAreMade m past =
     (k s listener : ℕ) (said : MessageModel)
@@ -128,7 +128,7 @@ RequestsAreMade m past =
     → Gives k s (Indicates (AskedIs listener replier session said)) m
     → Ever (IsRequestedBySome session said) past
 
--- the places of the answers that the caller of this handle is told of, in order
+-- the places of the answers that are reported to the caller of this handle, in order
 abbrev pub replied_in : ℕ → List Content → List Place
 replied_in h [] = []
 replied_in h (Indicates (RepliedIs handle answer) ∷ records) =
@@ -140,7 +140,7 @@ abbrev pub told_in : ℕ → Move → Option SlotState → List Content
 told_in s m None = []
 told_in s m (Some slot) = (effect_in m s slot).records
 
--- the places of the answers that this caller is told of at this move
+-- the places of the answers that are reported to this caller at this move
 abbrev pub replied_at : Spot → Move → List Place
 replied_at at m =
     if m.node == at.node

@@ -103,8 +103,8 @@ IsRequestedBySome session said m past = (at : Spot) × IsRequested at session sa
 abbrev pub IsRequestedAs : Spot → SessionId → Move → List Move → Type 0
 IsRequestedAs at session m past = (said : MessageModel) × IsRequested at session said m past
 
--- this replier was told by `Asked` of a request of this identifier from this place, which this
--- caller had made there
+-- `Asked` reported to this replier a request of this identifier from this place, which this caller
+-- had made there
 pub record IsAsked (at by : Spot) (session : SessionId) (from : Place)
     (m : Move) (past : List Move) : Type 0 where
   pub listener : ℕ
@@ -147,7 +147,7 @@ IsAnsweredTo by session answer m past = (at : Spot) × IsAnswered at by session 
 abbrev pub IsAnsweredBySome : SessionId → ReplyModel → Move → List Move → Type 0
 IsAnsweredBySome session answer m past = (at by : Spot) × IsAnswered at by session answer m past
 
--- this caller of this identifier was told of an answer of this kind from this place, which had
+-- an answer of this kind from this place was reported to this caller of this identifier, and had
 -- been made there
 pub record IsReplied (at : Spot) (session : SessionId) (place : Place) (kind : MdKind)
     (m : Move) (past : List Move) : Type 0 where
@@ -158,7 +158,7 @@ pub record IsReplied (at : Spot) (session : SessionId) (place : Place) (kind : M
   pub answered : Ever (IsAnsweredBySome session answer) past
 
 -- a granted Confirm of this caller, of this identifier and at the node of the place `home`, for
--- that place, which it had been told of a query from
+-- the place `place`, from which a query had been reported to it
 pub record IsConfirmed (at : Spot) (session : SessionId) (home place : Place) (status : ℤ)
     (m : Move) (past : List Move) : Type 0 where
   pub c : AnyCaller

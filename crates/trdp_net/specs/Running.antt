@@ -25,8 +25,8 @@ pub record NetworkState : Type 0 where
   pub sent : List Sent
   pub told : List RecordModel
 
--- what number s is told at a move: an open slot its records; the number of a slot that is opened
--- there, that it is
+-- what is reported to number s at a move: to an open slot its records; to the number of a slot
+-- that is opened there, that it is open
 abbrev pub told_at : ℕ → Move → Option SlotState → List Content
 told_at s m None = if s == length m.before.slots then told_opening m.event else []
 told_at s m (Some slot) = told_in s m (Some slot)
@@ -37,7 +37,7 @@ TellsLatest [] told = told ≡ []
 TellsLatest (m ∷ past) told =
     (s : ℕ) → records_of s told ≡ told_at s m (slice_get m.before.slots s)
 
--- it shows this network: its nodes, what was sent, and what the latest move told
+-- it shows this network: its nodes, what was sent, and what the latest move reported
 pub record Shows (state : NetworkState) (w : Network) : Type 0 where
   pub nodes : state.nodes ≡ w.nodes
   pub sent : state.sent ≡ w.sent
@@ -47,12 +47,12 @@ pub record Shows (state : NetworkState) (w : Network) : Type 0 where
 abbrev pub Follows : NetworkState → Step → NetworkState → Type 0
 Follows old step new = (w : Network) → Shows old w → Shows new (network_step w step)
 
--- why the step isn't taken, where the node refuses the event for that cause
+-- why the step is rejected, where the node rejects the event for that cause
 abbrev pub node_fault : Option NodeFault → Option NetworkFault
 node_fault None = None
 node_fault (Some fault) = Some (Node fault)
 
--- why a node of the network doesn't take an event
+-- why a node of the network rejects an event
 abbrev pub event_fault : Option NetNode → EventModel → Option NetworkFault
 event_fault None event = Some NoNode
 event_fault (Some node) event =
@@ -67,7 +67,7 @@ delivery_fault (Some node) (Some x) =
     then event_fault (Some node) (DatagramIs x.protocol x.from x.to x.bytes)
     else Some Elsewhere
 
--- why a step isn't taken: the first cause that applies
+-- why a step is rejected: the first cause that applies
 abbrev pub step_fault : NetworkState → Step → Option NetworkFault
 step_fault w (CallAt k s call) = event_fault (slice_get w.nodes k) (CallIs s call)
 step_fault w (MomentAt k t) = event_fault (slice_get w.nodes k) (MomentIs t)
@@ -77,11 +77,11 @@ step_fault w (AddSlotAt k quotas) = event_fault (slice_get w.nodes k) (AddSlotIs
 step_fault w (DeliveryAt k which) =
     delivery_fault (slice_get w.nodes k) (slice_get w.sent which)
 
--- the fault is this cause, or memory is wanting
+-- the fault is this cause, or `OutOfMemory`
 abbrev pub MayFault : Option NetworkFault → NetworkFault → Type 0
 MayFault cause fault = (cause ≡ Some fault) ⊎ (fault ≡ Node OutOfMemory)
 
--- the node takes the event and tells this
+-- the node accepts the event and reports this
 pub record TakesEvent (old new : NetNode) (event : EventModel) (told : Told) : Type 0 where
   pub admitted : refused_as (length old.slots) old.globals event ≡ None
   pub node : new ≡ plain_node old event
@@ -89,7 +89,7 @@ pub record TakesEvent (old new : NetNode) (event : EventModel) (told : Told) : T
   pub telling : (k : ℕ) → TellsLatest
       (record { node = k; before = old; event = event } ∷ []) told.out.records
 
--- the node of that number takes the event and tells this, and no other node changes
+-- the node of that number accepts the event and reports this, and no other node changes
 pub record TakesEventAt (old new : List NetNode) (k : ℕ) (event : EventModel) (told : Told)
     : Type 0 where
   pub before : NetNode
@@ -98,7 +98,7 @@ pub record TakesEventAt (old new : List NetNode) (k : ℕ) (event : EventModel) 
   pub nodes : new ≡ slice_set old k after
   pub takes : TakesEvent before after event told
 
--- the telegram was found, the node of that number is reached by it, and takes it
+-- the telegram was found, it reaches the node of that number, and that node accepts it
 pub record DeliversAt (old new : List NetNode) (k : ℕ) (found : Option Sent) (told : Told)
     : Type 0 where
   pub x : Sent
@@ -106,7 +106,7 @@ pub record DeliversAt (old new : List NetNode) (k : ℕ) (found : Option Sent) (
   pub takes : TakesEventAt old new k (DatagramIs x.protocol x.from x.to x.bytes) told
   pub reached : reaches x.to (place_of x.protocol takes.before.setup) ≡ true
 
--- the answer to a step: its fault, and without one at most want of memory
+-- the result of a step: its fault, and without one at most `OutOfMemory`
 abbrev pub AnswerIs : Option NetworkFault → Result (Unit {0}) NetworkFault → Type 0
 AnswerIs cause (Ok done) = cause ≡ None
 AnswerIs cause (Err fault) = MayFault cause fault
@@ -135,7 +135,7 @@ abbrev pub FollowsIf : NetworkState → Option Step → NetworkState → Type 0
 FollowsIf old None new = ⊥
 FollowsIf old (Some step) new = Follows old step new
 
--- why it isn't taken
+-- why it is rejected
 abbrev pub own_fault : NetworkState → Option Step → Option NetworkFault
 own_fault w None = Some Unsent
 own_fault w (Some step) = step_fault w step

@@ -1,4 +1,4 @@
--- What a running node told at an event, and the telegrams among it.
+-- What a running node reported at an event, and the telegrams among it.
 use Rattle.std.specs.Prelude.{◌≡◌, ℕ, zero, suc, List, [], ◌∷◌, ◌++◌, Option, Some, slice_get}
 use Rattle.trdp_base.specs.declared.place.Place.{Place}
 use Rattle.trdp_model.specs.declared.record.Protocol.{Protocol}
@@ -17,15 +17,15 @@ abbrev pub place_at : Protocol → Home → Place
 place_at Pd home = home.pd
 place_at Md home = home.md
 
--- it is where a node of this configuration is
+-- these are the places of a node of this configuration
 abbrev pub IsOwnHome : Home → NodeSetup → Type 0
 IsOwnHome home setup = (protocol : Protocol) → place_at protocol home ≡ place_of protocol setup
 
--- a telegram, apart from where its bytes lie
+-- a telegram, apart from where its bytes are stored
 abbrev pub sent_model : AnySent → Sent
 sent_model x = record { protocol = x.protocol; bytes = x.bytes.now; from = x.from; to = x.to }
 
--- the telegrams among records of a node that is there
+-- the telegrams among records of a node with these places
 abbrev pub sends_from : Home → List Content → List Sent
 sends_from home [] = []
 sends_from home (Answers answer ∷ records) = sends_from home records
@@ -38,7 +38,7 @@ sends_from home (Sends protocol to bytes ∷ records) =
 abbrev pub sent_in_slot : Home → ℕ → List RecordModel → List Sent
 sent_in_slot home s records = sends_from home (records_of s records)
 
--- the telegrams of so many slots, from number s on, slot by slot
+-- the telegrams of n slots, from number s on, slot by slot
 abbrev pub sent_in_slots : Home → List RecordModel → ℕ → ℕ → List Sent
 sent_in_slots home records s zero = []
 sent_in_slots home records s (suc n) =
@@ -64,7 +64,7 @@ abbrev pub sought_past : Sought → List Sent → Option Sent
 sought_past (Found x) more = Some (sent_model x)
 sought_past (Left n) more = slice_get more n
 
--- it is what a look for number `which` comes to, whatever telegrams come after these
+-- it is the result of a search for number `which`, whatever telegrams come after these
 abbrev pub SoughtIn : List Sent → ℕ → Sought → Type 0
 SoughtIn sent which sought =
     (more : List Sent) → slice_get (sent ++ more) which ≡ sought_past sought more

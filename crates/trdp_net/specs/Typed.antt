@@ -12,7 +12,7 @@ use Rattle.trdp_model.specs.Events.{ReplyCall, QueryCall, ReplyErrorCall, Confir
 use Rattle.trdp_net.specs.Networks.{Step, CallAt}
 use Rattle.trdp_net.specs.Provenance.{Each}
 
--- topology counts of 32 bits
+-- topology counters of 32 bits
 pub record IsTopo (topo : Topo) : Type 0 where
   pub etb : topo.etb < 2 ^ 32
   pub op_trn : topo.op_trn < 2 ^ 32

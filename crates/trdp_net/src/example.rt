@@ -19,13 +19,13 @@ ghost use Rattle.trdp_net.specs.Example.{example_rows, example_steps, example_ne
 ghost use Rattle.trdp_net.specs.Example.{example_history, turns_of, turns_in, telegram};
 ghost use Rattle.trdp_net.specs.Example.{WasTold, ShowsValid};
 
-/// The promises are not empty: in this run of two nodes all their premises hold, each of its steps
-/// is taken and tells what stands beside it, and each thing that they speak of happens.
+/// The promises are not empty: in this run of two nodes all their premises hold, each step is
+/// accepted and reports what its row says, and each thing that they speak of happens.
 ///
 /// Node 0 publishes a value, and a subscription of node 1 shows it as valid. A listener of node 1
 /// is notified. Node 0 requests; the request arrives twice, and the listener is asked once. The
-/// replier queries; the query arrives twice, and the caller is told of it once. The caller
-/// confirms, and is done; the replier is told of the confirmation.
+/// replier queries; the query arrives twice, and is reported to the caller once. The caller
+/// confirms, and is done; the confirmation is reported to the replier.
 pub fn the_promises_are_not_empty()
     ensures premises { AreSingle example_configs × AreTypedSteps example_steps
         × Always IsFresh example_history × HaveOwnPlaces example_configs }

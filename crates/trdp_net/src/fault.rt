@@ -1,10 +1,10 @@
-//! Why a step of a network isn't taken.
+//! Why a step of a network is rejected.
 
 use std::alloc::AllocError;
 use thiserror::Error;
 use trdp_engine::NodeFault;
 
-/// Why a step isn't taken: the first of these that applies. The network stays as it was.
+/// Why a step is rejected: the first of these that applies. The network stays as it was.
 #[derive(Clone, Copy, Debug, PartialEq, Eq, Error)]
 pub enum NetworkFault {
     /// The event is a datagram that comes in, and only what was sent is delivered.
@@ -19,7 +19,8 @@ pub enum NetworkFault {
     /// The telegram was sent to a place that is not the node's.
     #[error("the telegram was sent to a place that is not the node's")]
     Elsewhere,
-    /// The node refuses the event, or memory is wanting, which may come in place of any other.
+    /// The node rejects the event, or an allocation fails; the latter may come in place of any
+    /// other.
     #[error("the node does not take the event")]
     Node(NodeFault),
 }

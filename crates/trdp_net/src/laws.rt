@@ -1,9 +1,12 @@
 //! The promises, of every list of steps from nodes that were just opened.
 //!
-//! What they may need: `AreSingle`, no node's own address is a group address; `AreTypedSteps`, each
-//! number, URI and identifier in a call is one that its field in a telegram holds, as the types of
-//! a running node have it; `IsFresh`, no two granted Requests carry the same identifier;
-//! `HaveOwnPlaces`, no two nodes were given the same place for message data.
+//! What they may need:
+//!
+//! - `AreSingle`: no node's own address is a group address;
+//! - `AreTypedSteps`: each number, URI and identifier in a call is one that its field in a
+//!   telegram holds, as the types of a running node have it;
+//! - `IsFresh`: no two granted Requests carry the same identifier;
+//! - `HaveOwnPlaces`: no two nodes have the same place for message data.
 
 ghost use Rattle.std.specs.Prelude.{◌≡◌, List, Some};
 ghost use Rattle.trdp_dataset.specs.Configs.{ConfigModel};
@@ -34,10 +37,10 @@ pub fn no_invented_value()
         → ValuesArePut (network_run (opened_network configs) steps) }
 {}
 
-/// An answer that a caller is told of was made, by a granted Reply, Query or ReplyError, at the
-/// node of the place that it names, on a replier that had been asked by this caller's own request:
-/// with this message type, comId, status and payload. And no caller is told of two answers of one
-/// place.
+/// An answer that is reported to a caller was made by a granted Reply, Query or ReplyError, with
+/// this message type, comId, status and payload. It was made at the node of the place that it
+/// names, on a replier that this caller's own request had asked. And no two answers that are
+/// reported to one caller are of one place.
 ///
 /// The first needs `AreSingle`, `AreTypedSteps` and `IsFresh`; the second needs nothing.
 pub fn no_invented_reply()
@@ -48,9 +51,9 @@ pub fn no_invented_reply()
         → AreDistinct (all_replied caller (history configs steps)) }
 {}
 
-/// A confirmation that a replier is told of was made, by a granted Confirm of this status for the
-/// place of the replier's node, by a caller of its session that had been told of a query from that
-/// place; and the replier had queried.
+/// A confirmation that is reported to a replier was made by a granted Confirm of this status for
+/// the place of the replier's node. A caller of its session made it, to which a query from that
+/// place had been reported; and the replier had queried.
 ///
 /// Needs `AreSingle` and `AreTypedSteps`.
 pub fn no_invented_confirm()
@@ -59,9 +62,9 @@ pub fn no_invented_confirm()
         → Always ConfirmsAreMade (history configs steps) }
 {}
 
-/// A caller that is told that it is done has been told of as many answers as it expected, at least
-/// one, each of a place of its own; and each query that it was told of was confirmed to its place
-/// by a granted Confirm of this caller, also where it expected any number of answers.
+/// Where `Done` is reported to a caller, as many answers have been reported to it as it expected,
+/// at least one, each of another place. Each query that was reported to it was confirmed to its
+/// place by a granted Confirm of this caller, also where it expected any number of answers.
 ///
 /// Needs `AreSingle` and `AreTypedSteps`. Not promised: that the confirmations arrived.
 pub fn no_early_done()
@@ -70,13 +73,13 @@ pub fn no_early_done()
         → Always DoneIsDue (history configs steps) }
 {}
 
-/// A notification that a listener is told of was made by a granted Notify, and a request by a
-/// granted Request of its identifier, at the node of the place that it names, with this comId,
-/// these URIs and this payload; it may have come as any of the request's repeats.
+/// A notification that is reported to a listener was made by a granted Notify, and a request by a
+/// granted Request of its identifier. Each was made at the node of the place that it names, with
+/// this comId, these URIs and this payload; a request may have come as any of its repeats.
 ///
-/// Needs `AreSingle` and `AreTypedSteps`. Not promised: that it is told once. A notification is
-/// told as often as it arrives, and a request that comes again after its session has closed is
-/// asked again.
+/// Needs `AreSingle` and `AreTypedSteps`. Not promised: that it is reported once. A notification
+/// is reported as often as it arrives, and a request that comes again after its session has closed
+/// is asked again.
 pub fn no_invented_request()
     ensures notified { (configs : List ConfigModel) (steps : List Step) → AreSingle configs
         → AreTypedSteps steps
@@ -100,16 +103,16 @@ pub fn history_is_the_run()
         → place_of Md m.before.setup ≡ place_of Md n.before.setup → m.node ≡ n.node }
 {}
 
-/// A node that takes an event, as `trdp_engine::Node::step` says, does what a node of the network
-/// does: the same globals, the same slots, the same records for each slot, and for one that is
-/// opened.
+/// A node that accepts an event, as `trdp_engine::Node::step` says, does what a node of the
+/// network does: the same globals, the same slots, the same records for each slot, and for one
+/// that is opened.
 pub fn nodes_move_so()
     ensures { (old new : NodeModel) (records records_then : List RecordModel) (event : EventModel)
         → StepsSo old new records records_then event
         → MovesSo old new records records_then event }
 {}
 
-/// A step that has a fault, as [`crate::Network`] answers it, changes nothing in the network that
+/// A step that has a fault, as [`crate::Network`] reports it, changes nothing in the network that
 /// is shown.
 pub fn faults_change_nothing()
     ensures { (old : NetworkState) (w : Network) (step : Step) (fault : NetworkFault)

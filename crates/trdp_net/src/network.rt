@@ -20,15 +20,15 @@ use std::marker::Model;
 use trdp_engine::{Call, Event, NodeConfig, Record};
 
 /// Real nodes with a network between them that loses, repeats and reorders as its user says: what
-/// any node sent may be delivered at any node that it reaches, as often and as late as one likes,
-/// or never. Nothing is lost of what was sent, so its memory grows with every event.
+/// any node sent may be delivered at any node that it reaches, any number of times, at any later
+/// time, or never. It keeps all that was sent, so its memory grows with every event.
 #[derive(Drop)]
 pub struct Network {
-    /// Where nodes and records take their memory from.
+    /// The allocator that nodes and records take their memory from.
     alloc: Global,
     /// The nodes, in the order of their configurations.
     stations: Vec<Station>,
-    /// What was told at each event that a node took, the latest last.
+    /// What was reported at each event that a node accepted, the latest last.
     events: Vec<Told>,
 }
 
@@ -45,7 +45,7 @@ impl Model for Network {
     } };
 }
 
-/// Lets the node of that number take an event, and gives what it told.
+/// Gives an event to the node of that number, and returns what the node reported.
 fn take_at(
     stations: &mut Vec<Station>,
     node: usize,
@@ -79,7 +79,7 @@ fn is_arrival(event: &Event<'_>) -> bool
     }
 }
 
-/// Lets a telegram come in at the node of that number, and gives what that told.
+/// Gives a telegram to the node of that number, and returns what the node reported.
 fn arrive(
     stations: &mut Vec<Station>,
     node: usize,
@@ -104,7 +104,8 @@ fn arrive(
     take_at(stations, node, alloc, &event)
 }
 
-/// Delivers a telegram, if there is one, at the node of that number, and gives what that told.
+/// Delivers a telegram, if there is one, at the node of that number, and returns what the node
+/// reported.
 fn deliver_at(
     stations: &mut Vec<Station>,
     node: usize,
@@ -136,7 +137,7 @@ impl Network {
     /// A network of nodes that are just opened. Nothing was sent.
     ///
     /// # Errors
-    /// Want of memory.
+    /// [`AllocError`] where there is no memory for them.
     pub fn new(alloc: Global, configs: Vec<NodeConfig>) -> Result<Network, AllocError>
         ensures { IfOk result (λ network. Shows network (opened_network configs.items)) }
     {
@@ -166,15 +167,14 @@ impl Network {
         find(&self.events, which)
     }
 
-    /// The i-th record, from 0, of what the latest event told that a node took; None past the
-    /// last.
+    /// The i-th record, from 0, of the latest event that a node accepted; None past the last.
     pub fn told(&self, i: usize) -> Option<Record<'_>>
         ensures { option_map record_model result ≡ slice_get self.now.told i }
     {
         latest(&self.events, i)
     }
 
-    /// Lets the node of that number take an event of any kind.
+    /// Gives an event of any kind to the node of that number.
     ///
     /// # Errors
     /// `NoNode`, and those of [`trdp_engine::Node::step`].
@@ -191,7 +191,7 @@ impl Network {
         Ok(())
     }
 
-    /// Lets the node of that number take an event of its own: a call, a moment, topology counts, a
+    /// Gives the node of that number an event of its own: a call, a moment, topology counters, a
     /// role or a slot that is opened.
     ///
     /// # Errors

@@ -8,7 +8,7 @@ ghost use Rattle.trdp_net.specs.Ties.{MovesSo};
 
 use trdp_engine::{Event, Node, NodeFault, Outbox};
 
-/// Lets a node take an event: it moves as a node of the network does, or it refuses the event and
+/// Gives an event to a node: it moves as a node of the network does, or it rejects the event and
 /// stays as it was.
 ///
 /// # Errors

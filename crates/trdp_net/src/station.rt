@@ -13,12 +13,12 @@ use std::alloc::{AllocError, Global};
 use std::marker::Model;
 use trdp_engine::{Event, Ip, Node, NodeConfig, Outbox, Place};
 
-/// A node with what its configuration said of it.
+/// A node with its places.
 #[derive(Drop)]
 pub(crate) struct Station {
     /// The node.
     node: Node,
-    /// Where it is.
+    /// Its places (address and port).
     home: Home,
 }
 
@@ -53,7 +53,7 @@ impl Station {
     /// A node that is just opened.
     ///
     /// # Errors
-    /// Want of memory.
+    /// [`AllocError`] where there is no memory for it.
     pub(crate) fn new(alloc: Global, config: NodeConfig) -> Result<Station, AllocError>
         ensures { IfOk result (λ station. station ≡ net_node (opened_model config)) }
     {
@@ -71,7 +71,7 @@ impl Station {
         reaches(sent.to, self.home.place(sent.protocol))
     }
 
-    /// Lets the node take an event, and gives what it told.
+    /// Gives an event to the node, and returns what it reported.
     ///
     /// # Errors
     /// Those of [`Node::step`]; the node is as before.

@@ -1,4 +1,4 @@
-//! What a node told at an event, and the telegrams among it.
+//! What a node reported at an event, and the telegrams among it.
 
 ghost use Rattle.std.specs.Prelude.{◌≡◌, ◌∷◌, [], slice_get, option_map, option_to_list};
 ghost use Rattle.trdp_model.specs.Configs.{setup_of};
@@ -9,7 +9,7 @@ ghost use Rattle.trdp_net.specs.Tellings.{all_sent, sent_model, latest};
 
 use trdp_engine::{Ip, NodeConfig, Outbox, Place, Protocol, Record, What};
 
-/// Where a node is.
+/// The places (address and port) of a node.
 #[derive(Clone, Copy, Drop)]
 pub(crate) struct Home {
     /// Its place for process data.
@@ -19,7 +19,7 @@ pub(crate) struct Home {
 }
 
 impl Home {
-    /// Where a node of that configuration is.
+    /// The places of a node of that configuration.
     pub(crate) fn of(config: &NodeConfig) -> Home
         ensures { IsOwnHome result (setup_of config.now) }
     {
@@ -50,17 +50,17 @@ impl Home {
 /// A telegram that was sent.
 #[derive(Clone, Copy, Debug)]
 pub struct Sent<'a> {
-    /// Over which protocol's port.
+    /// The protocol, over whose port it was sent.
     pub protocol: Protocol,
     /// The place of its sender.
     pub from: Place,
-    /// Where it was sent to: a node's place, or a group address.
+    /// The place that it was sent to: a node's, or one of a group address.
     pub to: Place,
     /// Every byte of it, the header first.
     pub bytes: &'a [u8],
 }
 
-/// What a look through telegrams comes to.
+/// The result of a search through telegrams.
 #[derive(Clone, Copy)]
 pub(crate) enum Sought<'a> {
     /// It is among them.
@@ -69,10 +69,10 @@ pub(crate) enum Sought<'a> {
     Left(usize),
 }
 
-/// What a node told at an event that it took.
+/// What a node reported at an event that it accepted.
 #[derive(Drop)]
 pub(crate) struct Told {
-    /// Where the node is.
+    /// The places of the node.
     pub(crate) home: Home,
     /// How many slots it had before the event.
     pub(crate) slots: usize,

@@ -1,15 +1,16 @@
 //! What datagrams and a moment cost a node, counted exactly.
 //!
 //! A search in the index by comId halves the rows: it compares the middle one, and goes on in the
-//! half before it or behind it. The rows of a comId are found by two searches, for the first of
-//! them, and for the first behind them among the rows from there on.
+//! half before it or after it. The rows of a comId are found by two searches, for the first of
+//! them, and for the first after them among the rows from there on.
 //!
-//! The orders of the due objects stand in a heap, in which none comes before the one above it. What
-//! room a moment needs is found from the top down, as far as something is due, by a comparison of
-//! each order with the moment; and before each object that fires, and at the end, the top is
-//! compared with it. A later order, or the last one where another is taken out, is compared with
-//! the one that stood there, goes down to the end, where of two below it the sooner one is found by
-//! a comparison, and from there up again as long as it is sooner than the one above it.
+//! The orders of the due objects are in a heap, in which none comes before the one above it. The
+//! room that a moment needs is found from the top down, as far as something is due, by a
+//! comparison of each order with the moment. Before each object that fires, and at the end, the
+//! top is compared with the moment. A later order, or the last one where another is taken out, is
+//! compared with the one that was there before. It goes down to the end, where of two below it the
+//! sooner one is found by a comparison, and from there up again as long as it is sooner than the
+//! one above it.
 
 use crate::node_bench::{NodeBench, lend};
 use crate::same::same;
@@ -71,7 +72,7 @@ const SUPERVISED: &str = "call 1 subscribe 100 0 0.0.0.0 0.0.0.0 0.0.0.0 0 0 500
 const CALLER: &str = "\
     call 0 request 300 00000000-0000-0000-0000-000000000001 1 100000 - - 0 0 10.0.0.2:17225 0d";
 
-/// What an event costs a node that has taken lines: comparisons, filter tests and look-ups by
+/// What an event costs a node that has processed lines: comparisons, filter tests and look-ups by
 /// session.
 struct Costing {
     name: &'static str,
@@ -81,8 +82,9 @@ struct Costing {
 }
 
 static COSTINGS: [Costing; 5] = [
-    // The first search compares the second row and the first, the other one the second row, behind
-    // which all is looked for. Two objects are asked, and both are handed the telegram.
+    // The first search compares the second row and the first, the other one the second row alone,
+    // since both rows come before the end that it looks for. Two objects are tested, and both
+    // receive the telegram.
     Costing {
         name: "data that a subscription in each slot takes",
         before: &[FIRST, SECOND],
@@ -97,8 +99,8 @@ static COSTINGS: [Costing; 5] = [
         counts: [4, 0, 0],
     },
     // The rows are those of any, of the first slot and the second, and then that of comId 300,
-    // which comes by 2 comparisons and 1, those of any by 2 and 2. All three are asked, and the
-    // first listener of each slot is handed the telegram.
+    // which is found by 2 comparisons and 1, those of any by 2 and 2. All three are tested, and
+    // the first listener of each slot receives the telegram.
     Costing {
         name: "a notification for two listeners of one slot and one of the other",
         before: &[LISTENER, LISTENER_TO_ANY, SECOND_TO_ANY],

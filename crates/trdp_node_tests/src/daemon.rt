@@ -1,4 +1,4 @@
-//! A daemon in memory, and what its turns are to give.
+//! A daemon in memory, and the expected results of its turns.
 
 use crate::same::same;
 use std::alloc::Global;
@@ -7,15 +7,15 @@ use trdp_base::Place;
 use trdp_daemon::{Daemon, MemoryClock, MemoryWire, Port, Totals};
 use trdp_dataset::NodeConfig;
 
-/// A daemon in memory. What it does promises nothing of what [`Daemon`] does, so that whoever calls
-/// it has less to prove.
+/// A daemon in memory. Its contracts say nothing of what [`Daemon`] does, so that its callers have
+/// less to prove.
 #[derive(Drop)]
 pub struct MemoryDaemon {
     daemon: Daemon<MemoryWire, MemoryClock>,
 }
 
 impl MemoryDaemon {
-    /// A daemon over a wire, whose clock reads these moments; None for want of memory.
+    /// A daemon over a wire, whose clock reads these moments; None where an allocation fails.
     pub fn new(
         alloc: Global,
         config: &[u8],
@@ -38,7 +38,7 @@ impl MemoryDaemon {
         self.daemon.turn();
     }
 
-    /// So many turns, and what it has counted then.
+    /// That many turns, and what it has counted then.
     pub fn run(&mut self, turns: u32) -> Totals {
         self.daemon.run(turns)
     }
@@ -50,8 +50,8 @@ impl MemoryDaemon {
     }
 }
 
-/// Lends a daemon to a call, and answers whether there was one. What owns a daemon has it to drop,
-/// which takes long to prove: this is the one function that does.
+/// Lends a daemon to a call, and returns whether there was one. The owner of a daemon has to drop
+/// it, which takes long to prove: this is the only function that does.
 pub fn lend<F: Fn(&mut MemoryDaemon)>(daemon: Option<MemoryDaemon>, call: F) -> bool
     requires { F.IsAlwaysCallable call }
 {
@@ -64,7 +64,7 @@ pub fn lend<F: Fn(&mut MemoryDaemon)>(daemon: Option<MemoryDaemon>, call: F) -> 
     }
 }
 
-/// Totals without want of memory.
+/// Totals where no allocation failed.
 pub const fn totals(taken: u64, offered: u64, lost: u64, unread: u64) -> Totals {
     Totals {
         taken,
@@ -75,7 +75,7 @@ pub const fn totals(taken: u64, offered: u64, lost: u64, unread: u64) -> Totals 
     }
 }
 
-/// Asserts what so many turns offer and count; the text of a failure has the case's number.
+/// Asserts what that many turns offer and count; the text of a failure has the case's number.
 pub fn turns_give(
     rt: &(impl Abort + AllocGlobal),
     case: usize,

@@ -1,4 +1,4 @@
-//! Values that are handed over and shown as items, and the look at a subscription from outside.
+//! Values that are passed and shown as items, and the look at a subscription from outside.
 
 use crate::node_bench::{NodeBench, lend};
 use crate::same::same;
@@ -8,8 +8,8 @@ use std::test::Fail;
 use trdp_engine::{Node, NodeFault, Outbox, Peek, PeekFault, ValueFault, ValueState};
 use trdp_marshal::Item;
 
-/// A slot, and two datasets: a count and so many 16-bit numbers, and a longer count and so many
-/// bytes.
+/// A slot, and two datasets: a count and that many 16-bit numbers, and a longer count and that
+/// many bytes.
 static CONFIG: &[u8] = b"\
 [node]
 address = \"10.0.0.1\"
@@ -44,8 +44,8 @@ fn counted(alloc: Global, n: u16) -> Result<Item, AllocError> {
     Ok(Item::List(items))
 }
 
-/// The slot and the object that an item is put into, how many numbers that counts, and what the
-/// node says to it.
+/// The slot and the object that an item is put into, how many numbers the item counts, and what
+/// the node answers.
 static PUTTINGS: [(u16, u32, u16, &str); 7] = [
     (0, 1, 256, "0 refused Shape\n"),
     (0, 1, 2, "0 done\n"),
@@ -67,8 +67,8 @@ static PULLED: &str = "\
     00000000010050700000006400000000000000000000000500000000000000000000000060fe4938\
     0200010002000000\n";
 
-/// Hands an item to a publisher. It promises nothing of what [`Node::put_value`] does, so that
-/// whoever calls it has less to prove.
+/// Gives an item to a publisher. Its contract says nothing of what [`Node::put_value`] does, so
+/// that its callers have less to prove.
 fn put_item(
     node: &mut Node,
     alloc: Global,
@@ -80,7 +80,7 @@ fn put_item(
     node.put_value(alloc, slot, handle, item, out)
 }
 
-/// Puts an item that counts so many numbers.
+/// Puts an item that counts that many numbers.
 fn put(
     bench: &mut NodeBench,
     alloc: Global,
@@ -92,7 +92,7 @@ fn put(
     Ok(put_item(node, alloc, slot, handle, &item, out))
 }
 
-/// Puts each item, and compares what the node says to it.
+/// Puts each item, and compares what the node answers.
 fn put_each(rt: &(impl Abort + AllocGlobal), bench: &mut NodeBench) -> Result<(), Fail> {
     for (slot, handle, count, answer) in PUTTINGS {
         let ending = put(bench, rt.alloc(), (slot, handle), count)?;
@@ -104,7 +104,7 @@ fn put_each(rt: &(impl Abort + AllocGlobal), bench: &mut NodeBench) -> Result<()
     bench.tells(rt, "")
 }
 
-/// Puts each item, and asserts what a pull request is answered with then.
+/// Puts each item, and asserts how a pull request is answered then.
 fn put_and_pull(rt: &(impl Abort + AllocGlobal), bench: &mut NodeBench) -> Result<(), Fail> {
     put_each(rt, bench)?;
     bench.take(rt.alloc(), PULL)?;
@@ -155,7 +155,7 @@ fn unseen(rt: &(impl Abort + AllocGlobal), node: &Node) {
     }
 }
 
-/// Asserts that the subscription of dataset 1001 shows an item that counts so many numbers.
+/// Asserts that the subscription of dataset 1001 shows an item that counts that many numbers.
 fn shows(rt: &(impl Abort + AllocGlobal), node: &Node, count: u16) -> Result<(), Fail> {
     let shown = node.value_of(rt.alloc(), 0, 4)? == counted(rt.alloc(), count)?;
     same(rt, count, shown, true);

@@ -1,11 +1,15 @@
-//! What no script says of a node, of a network of nodes and of a daemon: calls over the libraries,
-//! values as items, what a datagram costs, calls for which memory is refused, an exchange of
-//! running nodes with the steps that their network doesn't take, turns over a wire and a clock in
-//! memory, whose takes, gives and memory fail, and wires over sockets in memory. What a script says
-//! stands in the folder `rows` of the repository, with what it gives; what comes and goes at ports,
-//! readers and writers that fail, and services, are tried over the program. The values come from
-//! outside: telegrams from the standard's layout with zlib's CRC-32, and answers by the rules of
-//! the profile, computed by hand.
+//! Worked examples of a node, of a network of nodes and of a daemon, which no script can show:
+//!
+//! - calls over the libraries, values as items, and what a datagram costs;
+//! - calls for which memory is refused;
+//! - an exchange of running nodes, with the steps that their network rejects;
+//! - turns over a wire and a clock in memory, where receiving, sending or memory fails;
+//! - wires over sockets in memory.
+//!
+//! What a script can show is in the folder `rows` of the repository, with its output. Ports,
+//! readers and writers that fail, and services are tested over the program. The values come from
+//! outside: telegrams from the standard's layout with zlib's CRC-32, and answers according to the
+//! profile, computed by hand.
 #![tactic(auto)]
 
 #[cfg(test)]

@@ -9,7 +9,7 @@ use trdp_script::{
     LINE_MAX, Line, LineFault, OperatorLine, Question, read_control, read_line, read_operator,
 };
 
-/// What a line comes to, as far as these tests look.
+/// What a line is read as, as far as these tests look.
 #[derive(Clone, Copy, Debug, PartialEq, Eq)]
 enum Said {
     Nothing,
@@ -78,6 +78,7 @@ static LINES: [(&str, Said); 7] = [
     ("call 0 jump", Said::Bad(LineFault::Unknown)),
 ];
 
+// rule: line.unknown line.count line.length
 #[test]
 fn a_line_says_its_event(rt: HostRuntime) -> Result<(), Fail> {
     for (line, wanted) in &LINES {
@@ -94,6 +95,7 @@ fn a_line_says_its_event(rt: HostRuntime) -> Result<(), Fail> {
     Ok(())
 }
 
+// rule: control.line control.operator
 #[test]
 fn a_datagram_says_its_event(rt: HostRuntime) {
     let found = comes_to(&read_control(rt.alloc(), 0, b"get 1"));

@@ -1,8 +1,8 @@
-//! A network of four running nodes, which a test leads by lines.
+//! A network of four running nodes, which a test drives by lines.
 //!
-//! What no contract of `trdp_net` says is that anything is told at all: a network in which every
-//! event lacks memory keeps each promise. Here a request to a group is answered, a query confirmed
-//! and a notification heard, over a network that loses, repeats and reorders.
+//! No contract of `trdp_net` says that anything is reported at all: a network in which an
+//! allocation fails at every event keeps each promise. Here a request to a group is answered, a
+//! query confirmed and a notification heard, over a network that loses, repeats and reorders.
 
 mod exchanges;
 mod faults;
@@ -49,27 +49,27 @@ md_port = 17235
 ",
 ];
 
-/// No event here tells more than that many records.
+/// No event here reports more than that many records.
 const TOLD_MAX: usize = 8;
 
 /// What is done at a node.
 enum Act {
-    /// It takes the event of the line.
+    /// It gets the event of the line.
     Take(&'static str),
     /// The telegram of that number is delivered there.
     Deliver(usize),
 }
 
-/// A step that the network takes.
+/// A step that the network accepts.
 struct Step {
     /// The number of the node.
     node: usize,
     act: Act,
-    /// What it tells, as lines.
+    /// What it reports, as lines.
     tells: &'static str,
 }
 
-/// A network, and where its records take their memory from.
+/// A network, and the allocator that its records take their memory from.
 #[derive(Drop)]
 struct NetworkBench {
     alloc: Global,
@@ -87,13 +87,13 @@ impl NetworkBench {
         Ok(NetworkBench { alloc, network })
     }
 
-    /// Lets the node of that number take an event. It promises nothing of what [`Network::take`]
-    /// does, so that whoever calls it has less to prove.
+    /// Gives an event to the node of that number. Its contract says nothing of what
+    /// [`Network::take`] does, so that its callers have less to prove.
     fn step(&mut self, node: usize, event: &Event<'_>) -> Result<(), NetworkFault> {
         self.network.take(node, event)
     }
 
-    /// Lets the node of that number take the event of a line; None where it has none.
+    /// Gives the event of a line to the node of that number; None where the line has none.
     fn take(&mut self, node: usize, line: &str) -> Option<Result<(), NetworkFault>> {
         let mut buffer = Vec::new(self.alloc);
         match read_event(&mut buffer, line.as_bytes()) {
@@ -107,7 +107,7 @@ impl NetworkBench {
         self.network.deliver(which, node)
     }
 
-    /// Does this at the node of that number, and answers what comes of it.
+    /// Does this at the node of that number, and returns the result.
     fn act(&mut self, node: usize, act: &Act) -> Option<Result<(), NetworkFault>> {
         match act {
             Act::Take(line) => self.take(node, line),
@@ -115,7 +115,7 @@ impl NetworkBench {
         }
     }
 
-    /// What the latest event told, as lines.
+    /// What the latest event reported, as lines.
     fn told(&self) -> Result<Vec<u8>, AllocError> {
         let mut text = Vec::new(self.alloc);
         for i in 0..TOLD_MAX {
@@ -126,7 +126,7 @@ impl NetworkBench {
         Ok(text)
     }
 
-    /// Asserts that the latest event told these lines.
+    /// Asserts that the latest event reported these lines.
     fn tells(
         &self,
         rt: &(impl Abort + AllocGlobal),
@@ -138,7 +138,7 @@ impl NetworkBench {
         Ok(())
     }
 
-    /// Asserts that the network takes these steps and tells what they say.
+    /// Asserts that the network accepts these steps and reports what they say.
     fn play(
         &mut self,
         rt: &(impl Abort + AllocGlobal),

@@ -42,8 +42,8 @@ fn events() -> [Event<'static>; 3] {
     [publish(0), put(), Event::Moment(100_000)]
 }
 
-/// The same for slot 0, with a call of slot 1, a moment that changes nothing and a last one that is
-/// refused.
+/// The same for slot 0, with a call of slot 1, a moment that changes nothing and a last one that
+/// is rejected.
 fn other_events() -> [Event<'static>; 6] {
     [
         publish(1),
@@ -55,7 +55,7 @@ fn other_events() -> [Event<'static>; 6] {
     ]
 }
 
-/// What they give.
+/// What they record.
 static FIRST_TELEGRAM: &str = "\
     0 handle 1\n\
     0 done\n\
@@ -90,7 +90,7 @@ id = 1002
 element = [{ type = \"INT16\" }, { type = 15 }, { type = 1001 }]
 ";
 
-/// What slot 1 of that one answers, and then what slot 0 gives.
+/// What slot 1 of that one answers, and then what slot 0 records.
 static OTHER_TELEGRAM: &str = "\
     1 refused Quota\n\
     0 handle 1\n\
@@ -99,7 +99,7 @@ static OTHER_TELEGRAM: &str = "\
     000000000100506400000064000000000000000000000002000000000000000000000000ec179c94\
     0a0b0000\n";
 
-/// Runs both lists of events, and answers how many were taken of each.
+/// Runs both lists of events, and returns how many of each were processed.
 fn run_lists(first: &mut NodeBench, second: &mut NodeBench) -> (usize, usize) {
     run_both(
         &mut first.node,
@@ -111,7 +111,7 @@ fn run_lists(first: &mut NodeBench, second: &mut NodeBench) -> (usize, usize) {
     )
 }
 
-/// Asserts what both lists of events give two new nodes.
+/// Asserts what both lists of events record at two new nodes.
 fn run_two(
     rt: &(impl Abort + AllocGlobal),
     first: &mut NodeBench,

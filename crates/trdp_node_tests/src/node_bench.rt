@@ -1,4 +1,4 @@
-//! A node that a test holds in its own hands, and leads by lines.
+//! A node that a test owns, and drives by lines.
 
 use crate::same::same;
 use std::alloc::Global;
@@ -8,13 +8,13 @@ use trdp_dataset::NodeConfig;
 use trdp_engine::{Event, Node, NodeFault, Outbox};
 use trdp_script::{print_record, read_event};
 
-/// Hands an event to a node, as the nodes of a network take theirs. It promises nothing of what
-/// [`Node::step`] does, so that whoever calls it has less to prove.
+/// Gives an event to a node, as a network gives events to its nodes. Its contract says nothing of
+/// what [`Node::step`] does, so that its callers have less to prove.
 pub fn step(node: &mut Node, event: &Event<'_>, out: &mut Outbox) -> Result<(), NodeFault> {
     trdp_net::step(node, event, out)
 }
 
-/// A node, with the records that it has given.
+/// A node, with the records that it has made.
 #[derive(Drop)]
 pub struct NodeBench {
     pub node: Node,
@@ -30,7 +30,7 @@ impl NodeBench {
         Ok(NodeBench { node, out })
     }
 
-    /// Hands the event of a line to the node.
+    /// Gives the event of a line to the node.
     pub fn take(&mut self, alloc: Global, line: &str) -> Result<(), Fail> {
         let mut buffer = Vec::new(alloc);
         match read_event(&mut buffer, line.as_bytes()) {
@@ -40,7 +40,7 @@ impl NodeBench {
         }
     }
 
-    /// Hands the events of the lines to the node, and drops its records.
+    /// Gives the events of the lines to the node, and drops its records.
     fn take_all(&mut self, alloc: Global, lines: &[&str]) -> Result<(), Fail> {
         for line in lines {
             self.take(alloc, line)?;
@@ -49,7 +49,7 @@ impl NodeBench {
         Ok(())
     }
 
-    /// A new node of that configuration that has taken the lines, and whose outbox is empty.
+    /// A new node of that configuration that has processed the lines, and whose outbox is empty.
     pub fn after(alloc: Global, config: &[u8], lines: &[&str]) -> Result<NodeBench, Fail> {
         let mut bench = NodeBench::new(alloc, config)?;
         bench.take_all(alloc, lines)?;
@@ -80,8 +80,8 @@ impl NodeBench {
     }
 }
 
-/// Lends a node to a call, and gives what that answers. What owns a node has it to drop, which
-/// takes long to prove: so tests hand it on to this one function.
+/// Lends a node to a call, and returns the call's result. The owner of a node has to drop it,
+/// which takes long to prove: so tests pass it to this one function.
 pub fn lend<T, F: Fn(&mut NodeBench) -> Result<T, Fail>>(
     bench: Result<NodeBench, Fail>,
     call: F,

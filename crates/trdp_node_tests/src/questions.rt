@@ -29,8 +29,8 @@ const APPLICATION: Place = Place {
     port: 9000,
 };
 
-/// In each turn the reading of the clock, what the operator says, and what he is answered. In the
-/// second turn, behind the operator's line, the application publishes.
+/// In each turn the reading of the clock, what the operator says, and the answer. In the second
+/// turn, after the operator's line, the application publishes.
 static TURNS: [(u64, &[u8], &[u8]); 6] = [
     (
         5,
@@ -60,7 +60,7 @@ static TURNS: [(u64, &[u8], &[u8]); 6] = [
     ),
 ];
 
-/// Lays down what the operator and the application say.
+/// Sets up what the operator and the application say.
 fn lay_down(wire: &mut MemoryWire) -> Result<(), AllocError> {
     for (i, (_, line, _)) in TURNS.iter().enumerate() {
         wire.arrive(Port::Operator, i + 1, OPERATOR, line)?;
@@ -69,14 +69,14 @@ fn lay_down(wire: &mut MemoryWire) -> Result<(), AllocError> {
     wire.arrive(Port::Control(0), 2, APPLICATION, publish)
 }
 
-/// A daemon over which this is laid down; None for want of memory.
+/// A daemon with this set up; None where an allocation fails.
 fn daemon(alloc: Global) -> Option<MemoryDaemon> {
     let mut wire = MemoryWire::new(alloc, 100, 100, 4096).ok()?;
     lay_down(&mut wire).ok()?;
     MemoryDaemon::new(alloc, CONFIG, wire, &TURNS.map(|(reading, _, _)| reading))
 }
 
-/// Asserts what the operator is answered, and the application behind the second answer.
+/// Asserts the answers to the operator, and that to the application after the second one.
 fn answers(rt: &(impl Abort + AllocGlobal), daemon: &mut MemoryDaemon) {
     daemon.run(6);
     let [first, second, third, fourth, fifth, sixth] = TURNS.map(|(_, _, answer)| (
@@ -89,6 +89,7 @@ fn answers(rt: &(impl Abort + AllocGlobal), daemon: &mut MemoryDaemon) {
     offers_are(rt, daemon.wire(), &wanted);
 }
 
+// rule: control.question
 #[test]
 fn a_question_is_answered(rt: HostRuntime) {
     let is_there = lend(daemon(rt.alloc()), |daemon| answers(&rt, daemon));

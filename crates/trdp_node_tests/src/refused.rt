@@ -1,9 +1,9 @@
 //! Calls for which memory is refused: each changes nothing, and the same call again does what it
 //! should.
 //!
-//! These tests pass whichever one request for memory is refused, one of their own too;
-//! `bench/refused_memory.py` refuses each in turn. That one is refused at most tells a call that
-//! lacks memory from one that says so for ever.
+//! These tests pass whichever single request for memory is refused, one of their own too;
+//! `bench/refused_memory.py` refuses each in turn. Since at most one is refused, a call that
+//! reports `OutOfMemory` for ever fails its test.
 
 ghost use Rattle.std.specs.Prelude.{◌≡◌};
 
@@ -20,7 +20,7 @@ use trdp_engine::{Call, Event, Node, NodeFault, Outbox};
 use trdp_marshal::{Item, MarshalFault, decode, encode};
 use trdp_script::{LineFault, print_record, read_event, read_line};
 
-/// What a call answers, or the same call once more where it says that memory is wanting.
+/// What a call returns, or the same call once more where it reports that an allocation failed.
 fn again<T, E: PartialEq + Debug + Copy, F: Fn() -> Result<T, E>>(
     rt: &(impl Abort + AllocGlobal),
     call: F,
@@ -40,10 +40,10 @@ fn again<T, E: PartialEq + Debug + Copy, F: Fn() -> Result<T, E>>(
 /// An event that takes memory.
 struct Row {
     name: &'static str,
-    /// What the node has taken before.
+    /// What the node has processed before.
     before: &'static [&'static str],
     line: &'static str,
-    /// What the node gives for that line, slot by slot.
+    /// What the node records at that line, slot by slot.
     gives: &'static str,
 }
 
@@ -141,7 +141,7 @@ static ROWS: [Row; 7] = [
     },
 ];
 
-/// Hands the event of a line to a node, and answers whether memory was there.
+/// Gives the event of a line to a node, and returns whether every allocation succeeded.
 fn take(alloc: Global, node: &mut Node, line: &str, out: &mut Outbox) -> bool {
     let mut buffer = Vec::new(alloc);
     match read_event(&mut buffer, line.as_bytes()) {
@@ -150,7 +150,7 @@ fn take(alloc: Global, node: &mut Node, line: &str, out: &mut Outbox) -> bool {
     }
 }
 
-/// Hands the events of lines to a node, and answers whether memory was there.
+/// Gives the events of lines to a node, and returns whether every allocation succeeded.
 fn take_all(alloc: Global, node: &mut Node, lines: &[&str]) -> bool {
     let mut out = Outbox::new(alloc);
     for line in lines {
@@ -161,7 +161,7 @@ fn take_all(alloc: Global, node: &mut Node, lines: &[&str]) -> bool {
     true
 }
 
-/// A node that has taken these lines; None for want of memory.
+/// A node that has processed these lines; None where an allocation fails.
 fn node_after(alloc: Global, lines: &[&str]) -> Option<Node> {
     let config = NodeConfig::from_toml(alloc, CONFIG).ok()?;
     let mut node = Node::new(alloc, config).ok()?;
@@ -177,7 +177,7 @@ fn state(node: &Node, out: &Outbox) -> (u64, usize) {
     (node.now(), out.len())
 }
 
-/// Hands an event to a node, and once more where it says that memory is wanting.
+/// Gives an event to a node, and once more where it reports `OutOfMemory`.
 fn step_again(
     rt: &(impl Abort + AllocGlobal),
     name: &str,
@@ -215,7 +215,7 @@ fn lines_of(alloc: Global, out: &Outbox) -> Result<Vec<u8>, AllocError> {
     Ok(text)
 }
 
-/// Reads a line for the first time, when memory for its bytes may be wanting.
+/// Reads a line for the first time, when the allocation of its bytes may fail.
 fn read_first(rt: &(impl Abort + AllocGlobal), buffer: &mut Vec<u8>, line: &[u8]) {
     match read_event(buffer, line) {
         Ok(_) => {}
@@ -223,7 +223,7 @@ fn read_first(rt: &(impl Abort + AllocGlobal), buffer: &mut Vec<u8>, line: &[u8]
     }
 }
 
-/// Hands the event of a row's line to a node.
+/// Gives the event of a row's line to a node.
 fn take_again(
     rt: &(impl Abort + AllocGlobal),
     row: &Row,
@@ -242,21 +242,21 @@ fn take_again(
     }
 }
 
-/// Asserts that the records are the lines that a row gives.
+/// Asserts that the records are the lines of a row.
 fn tells_again(rt: &(impl Abort + AllocGlobal), row: &Row, out: &Outbox) -> Result<(), Fail> {
     let text = again(rt, || lines_of(rt.alloc(), out), AllocError)?;
     same(rt, row.name, str::from_utf8(&text)?, row.gives);
     Ok(())
 }
 
-/// Asserts what a row's event gives a node into an outbox that has no room.
+/// Asserts the records of a row's event at a node whose outbox has no room.
 fn gives_again(rt: &(impl Abort + AllocGlobal), row: &Row, node: &mut Node) -> Result<(), Fail> {
     let mut out = Outbox::new(rt.alloc());
     take_again(rt, row, node, &mut out)?;
     tells_again(rt, row, &out)
 }
 
-/// Asserts what a row's event gives a node that has taken the lines before it.
+/// Asserts the records of a row's event at a node that has processed the lines before it.
 fn row_again(rt: &(impl Abort + AllocGlobal), row: &Row) -> Result<(), Fail> {
     let before = || node_after(rt.alloc(), row.before).ok_or("no memory");
     let mut node = again(rt, before, "no memory")?;
@@ -343,7 +343,7 @@ fn values_are_spelled_again(rt: HostRuntime) -> Result<(), Fail> {
     Ok(())
 }
 
-/// Whether the event hands 0a0b to the object 1 of slot 0.
+/// Whether the event puts 0a0b in the object 1 of slot 0.
 fn is_put(event: &Event<'_>) -> bool {
     matches!(
         *event,

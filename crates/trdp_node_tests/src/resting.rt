@@ -7,7 +7,7 @@ use std::process::Abort;
 use trdp_base::{Ip, Place};
 use trdp_daemon::{MemoryWire, Port, Rest};
 
-/// A node of one slot that publishes. A turn takes at three ports.
+/// A node of one slot that publishes. A turn receives at three ports.
 const PUBLISHER: &[u8] = b"
 [node]
 address = \"10.0.0.1\"
@@ -25,8 +25,8 @@ const APPLICATION: Place = Place {
 /// What the clock reads at the turns. Something is due at 100,000.
 const READINGS: [u64; 6] = [0, 100, 40_000, 100_000, 100_010, 150_000];
 
-/// The rests between these turns, where the daemon is attended to until 150,000: up to 100,000,
-/// and then not up to 200,000.
+/// The rests between these turns, where the daemon runs until 150,000: up to 100,000, and then not
+/// up to 200,000.
 static RESTS: [Rest; 5] = [
     Rest {
         takes: 3,
@@ -50,8 +50,8 @@ static RESTS: [Rest; 5] = [
     },
 ];
 
-/// A daemon whose slot publishes every 100,000 microseconds from its first turn on; None for want
-/// of memory.
+/// A daemon whose slot publishes every 100,000 microseconds from its first turn on; None where an
+/// allocation fails.
 fn publishing(alloc: Global) -> Option<MemoryDaemon> {
     let publish = b"publish 100 0 100000 0 0 0 10.0.0.2:17224";
     let mut wire = MemoryWire::new(alloc, 100, 100, 4096).ok()?;
@@ -59,7 +59,7 @@ fn publishing(alloc: Global) -> Option<MemoryDaemon> {
     MemoryDaemon::new(alloc, PUBLISHER, wire, &READINGS)
 }
 
-/// Attends to a daemon until its end, and asserts what it took and how it rested.
+/// Runs a daemon until its end, and asserts what it received and how it rested.
 fn attends(rt: &(impl Abort + AllocGlobal), daemon: &mut MemoryDaemon) {
     // The answer of the call; nothing is sent, since the publisher has no value.
     same(rt, "totals", daemon.attend(150_000), totals(1, 1, 0, 0));

@@ -1,5 +1,5 @@
-//! Wires over sockets in memory: which sockets are bound and watched, what a few calls ask of them,
-//! and which of the gives that they refuse a wire keeps.
+//! Wires over sockets in memory: which sockets are bound and watched, what a few calls ask of
+//! them, and which refused sending (`Wire::give`) a wire keeps.
 
 use crate::same::same;
 use std::alloc::Global;
@@ -29,7 +29,7 @@ control_port = 18000
 /// operator's, that of slot 0 and that of slot 2.
 const SOCKETS: [usize; 7] = [0, 1, 34, 35, 2, 3, 5];
 
-/// Where these are bound.
+/// The places where these are bound.
 static PLACES: [Place; 7] = [
     Place {
         ip: Ip(0x0a00_0001),
@@ -67,25 +67,25 @@ const PEER: Place = Place {
     port: 9000,
 };
 
-/// Where no way leads to.
+/// A place that no route leads to.
 const FAR: Place = Place {
     ip: Ip(0x0a00_0003),
     port: 9000,
 };
 
-/// One give.
+/// One call of `Wire::give`.
 struct Give {
     /// The port that it leaves from.
     port: Port,
     /// Where it goes.
     to: Place,
-    /// What the wire answers.
+    /// What the wire returns.
     answer: Result<(), WireFault>,
-    /// The port of the latest give that was refused, behind this one; None before the first.
+    /// The port of the latest `give` that was refused, after this one; None before the first.
     refused: Option<Port>,
 }
 
-/// A give that goes, one for which no way is there, one that goes, and again one without a way.
+/// A `give` that is sent, one without a route, one that is sent, and again one without a route.
 static GIVES: [Give; 4] = [
     Give {
         port: Port::Pd,
@@ -113,7 +113,7 @@ static GIVES: [Give; 4] = [
     },
 ];
 
-/// The refusal of a give where no way leads to; 101 is the system's ENETUNREACH.
+/// The refusal of a `give` to a place without a route; 101 is the system's ENETUNREACH.
 fn without_way(port: Port) -> Refusal {
     Refusal {
         port,
@@ -122,7 +122,7 @@ fn without_way(port: Port) -> Refusal {
     }
 }
 
-/// At which sockets `uses` takes and gives, and how many bytes each datagram has.
+/// The sockets at which `uses` receives and sends, and how many bytes each datagram has.
 const USES: [(usize, usize); 5] = [(0, 0), (1, 16), (2, 16), (3, 5), (1, 7)];
 
 /// A datagram at each of four sockets: an empty one, one like an answer, an answer, and a
@@ -146,7 +146,7 @@ fn config(alloc: Global) -> Option<NodeConfig> {
     NodeConfig::from_toml(alloc, NODE).ok()
 }
 
-/// What a wire hands in at these ports, and how it takes a message that goes out.
+/// What a wire receives at these ports, and how it sends a message.
 fn uses<W: Wire>(rt: &(impl Abort + AllocGlobal), wire: &mut W) {
     let mut room = [0; 16];
     let empty = wire.take(Port::Pd, &mut room);
@@ -174,7 +174,7 @@ fn is_bound(row: Option<&SocketRow>, socket: usize, place: Place) -> bool {
     }
 }
 
-/// Whether a row says that something was taken or given at this socket, with so many bytes.
+/// Whether a row says that something was received or sent at this socket, with that many bytes.
 fn is_used(row: Option<&SocketRow>, socket: usize, len: usize) -> bool {
     match row {
         Some(SocketRow::Taken(number, 16, Some((from, bytes)))) => {
@@ -202,7 +202,7 @@ fn assert_used(rt: &(impl Abort + AllocGlobal), rows: &[SocketRow], first: usize
     }
 }
 
-/// A wire over the sockets of the node; None for want of memory.
+/// A wire over the sockets of the node; None where an allocation fails.
 fn plain(alloc: Global) -> Option<UdpWire<MemorySockets>> {
     let config = config(alloc)?;
     UdpWire::open(sockets(alloc)?, &config).ok()
@@ -212,17 +212,18 @@ fn plain(alloc: Global) -> Option<UdpWire<MemorySockets>> {
 type Resting = RestingWire<MemorySockets, MemoryClock>;
 
 /// The readings of its clock where each rest begins and where it ends: a turn of 400 microseconds
-/// comes before the third rest, and none has taken time else.
+/// comes before the third rest, and no other turn takes time.
 const READINGS: [u64; 5] = [7, 7, 7, 7, 407];
 
-/// A wire that rests over these sockets, with a clock of these readings; None for want of memory.
+/// A wire that rests over these sockets, with a clock of these readings; None where an allocation
+/// fails.
 fn over(alloc: Global, sockets: MemorySockets, readings: &[u64]) -> Option<Resting> {
     let config = config(alloc)?;
     let clock = MemoryClock::new(alloc, readings).ok()?;
     RestingWire::open(alloc, sockets, clock, &config).ok()
 }
 
-/// A wire that rests over the sockets of the node; None for want of memory.
+/// A wire that rests over the sockets of the node; None where an allocation fails.
 fn resting(alloc: Global) -> Option<Resting> {
     over(alloc, sockets(alloc)?, &READINGS)
 }
@@ -232,7 +233,7 @@ fn busy(alloc: Global) -> Option<Resting> {
     over(alloc, sockets(alloc)?, &[7, 7, 7, 7, 50_007])
 }
 
-/// Whether a row says that a wait of so many milliseconds told of these sockets.
+/// Whether a row says that a wait of that many milliseconds reported these sockets.
 fn is_wait(row: Option<&SocketRow>, millis: u64, sockets: &[usize]) -> bool {
     match row {
         Some(SocketRow::Waited(most, told)) => *most == millis && told.as_slice() == sockets,
@@ -240,7 +241,7 @@ fn is_wait(row: Option<&SocketRow>, millis: u64, sockets: &[usize]) -> bool {
     }
 }
 
-/// A wire that doesn't rest binds its sockets, and takes and gives at them.
+/// A wire that doesn't rest binds its sockets, and receives and sends at them.
 fn works(rt: &(impl Abort + AllocGlobal), wire: &mut UdpWire<MemorySockets>) {
     uses(rt, wire);
     wire.rest(1_000_000);
@@ -250,8 +251,8 @@ fn works(rt: &(impl Abort + AllocGlobal), wire: &mut UdpWire<MemorySockets>) {
     assert_used(rt, rows, 7);
 }
 
-/// A wire that rests watches its sockets too, and waits or sleeps where nothing was heard: for what
-/// is left of the rest behind the turn before it.
+/// A wire that rests watches its sockets too, and waits or sleeps where nothing was heard: for
+/// what is left of the rest after the turn before it.
 fn works_and_rests(rt: &(impl Abort + AllocGlobal), wire: &mut Resting) {
     uses(rt, wire);
     for most in [10_000, 10_000, 1_599, 1_200] {
@@ -272,8 +273,8 @@ fn works_and_rests(rt: &(impl Abort + AllocGlobal), wire: &mut Resting) {
     same(rt, "sleeps", wire.clock().sleeps(), [1_199].as_slice());
 }
 
-/// A wire that rests asks nothing at a port where it found nothing, before the system tells of it.
-/// It asks the system in each turn without a rest but the first, and sleeps for a moment where there
+/// A wire that rests reads no port again where it found nothing, before the system reports it. It
+/// asks the system in each turn without a rest but the first, and sleeps for a moment where there
 /// was none for 50 milliseconds.
 fn asks_where_news_are(rt: &(impl Abort + AllocGlobal), wire: &mut Resting) {
     let mut room = [0; 16];
@@ -316,7 +317,7 @@ fn a_wire_that_rests_asks_where_news_are(rt: HostRuntime) {
     }
 }
 
-/// What a wire answers to gives, and the latest refusal that it keeps behind each.
+/// What a wire returns from `give`, and the latest refusal that it keeps after each call.
 fn keeps_refusals<W: Wire>(rt: &(impl Abort + AllocGlobal), wire: &mut W) {
     same(rt, "before the first give", wire.refusal(), None);
     for (i, give) in GIVES.iter().enumerate() {
@@ -326,7 +327,7 @@ fn keeps_refusals<W: Wire>(rt: &(impl Abort + AllocGlobal), wire: &mut W) {
     }
 }
 
-/// A wire that rests, over sockets from which no way leads to one address; None for want of memory.
+/// A wire that rests, over sockets without a route to one address; None where an allocation fails.
 fn cut_off(alloc: Global) -> Option<Resting> {
     let mut sockets = MemorySockets::new(alloc);
     sockets.cut_off(FAR.ip);

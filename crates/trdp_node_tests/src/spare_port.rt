@@ -28,8 +28,8 @@ const APPLICATION: Place = Place {
     port: 9000,
 };
 
-/// A daemon whose operator opens a slot, and whose application makes a call there in the same turn;
-/// None for want of memory.
+/// A daemon whose operator opens a slot, and whose application makes a call there in the same
+/// turn; None where an allocation fails.
 fn opening(alloc: Global) -> Option<MemoryDaemon> {
     let publish = b"publish 100 0 100000 0 0 0 10.0.0.2:17224";
     let mut wire = MemoryWire::new(alloc, 100, 100, 4096).ok()?;
@@ -49,6 +49,7 @@ fn opens(rt: &(impl Abort + AllocGlobal), daemon: &mut MemoryDaemon) {
     offers_are(rt, daemon.wire(), &wanted);
 }
 
+// rule: slot.port
 #[test]
 fn an_opened_slot_has_the_spare_port(rt: HostRuntime) {
     let is_there = lend(opening(rt.alloc()), |daemon| opens(&rt, daemon));

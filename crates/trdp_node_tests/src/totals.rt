@@ -34,9 +34,9 @@ const JUMP: [u64; 6] = [
 /// A stream in memory.
 #[derive(Drop)]
 struct Page {
-    /// What it took.
+    /// What was written to it.
     text: Vec<u8>,
-    /// How many bytes it takes at the first write, at most; it takes all at the others.
+    /// How many bytes it accepts at the first write, at most; it accepts all at the others.
     first: usize,
 }
 
@@ -56,9 +56,9 @@ impl Stream for Page {
     }
 }
 
-/// What a stream takes of the first two lines of the node, one a second, where it takes so many
-/// bytes of the first one, and the clock reads these; at each of the first six turns a datagram
-/// comes. None for want of memory.
+/// What a stream accepts of the first two lines of the node, one a second, where it accepts
+/// `first` bytes of the first one, and the clock reads these; at each of the first six turns a
+/// datagram comes. None where an allocation fails.
 fn page_of(alloc: Global, readings: &[u64], first: usize) -> Option<Page> {
     let config = NodeConfig::from_toml(alloc, NODE).ok()?;
     let mut wire = MemoryWire::new(alloc, 100, 0, 0).ok()?;
@@ -77,8 +77,8 @@ fn page_of(alloc: Global, readings: &[u64], first: usize) -> Option<Page> {
     Some(page)
 }
 
-/// A line that isn't taken is left out, one that was cut is ended before the next, and a pause
-/// gives one line.
+/// A line that is rejected is left out, one that was cut is ended before the next, and a pause
+/// results in one line.
 #[test]
 fn each_line_is_whole_cut_or_left_out(rt: HostRuntime) {
     let rows: [([u64; 6], usize, &[u8]); 4] = [

@@ -1,4 +1,4 @@
-//! A daemon over a wire and a clock in memory, whose takes, gives and memory fail in turn.
+//! A daemon over a wire and a clock in memory, where receiving, sending and memory fail in turn.
 
 use crate::daemon::{MemoryDaemon, lend, offers_are, totals, turns_give};
 use std::alloc::{AllocError, Global};
@@ -35,9 +35,9 @@ const FOUR_TURNS: &[u8] = b"0 handle 1\n0 done\n\
     \0\0\0\x01\x01\0\x50\x64\0\0\0\x64\0\0\0\0\0\0\0\0\0\0\0\x02\
     \0\0\0\0\0\0\0\0\0\0\0\0\x1f\x87\x6e\xa2\x0a\x0b\0\0";
 
-/// What three turns offer and count where the take of that number fails, counted from 1, 0 for
-/// none. Each turn takes at process data, message data, the operator's port and the control port of
-/// slot 0: the fourth and the eighth take find the application's lines.
+/// What three turns offer and count where the `take` of that number fails, counted from 1, 0 for
+/// none. Each turn receives at process data, message data, the operator's port and the control
+/// port of slot 0: the fourth and the eighth `take` find the application's lines.
 fn without_take(take: usize) -> (&'static [u8], Totals) {
     match take {
         0 => (THREE_TURNS, totals(2, 3, 0, 0)),
@@ -47,9 +47,9 @@ fn without_take(take: usize) -> (&'static [u8], Totals) {
     }
 }
 
-/// What four turns offer, how many datagrams that is, and how often memory was wanting: where it
-/// never was, where it was for the publisher, for the value, and for the moment of the first
-/// telegram, which the next turn makes up for.
+/// What four turns offer, how many datagrams that is, and how often an allocation failed: never,
+/// for the publisher, for the value, and for the moment of the first telegram, which the next turn
+/// makes up for.
 static LOSSES: [(&[u8], u64, u64); 4] = [
     (FOUR_TURNS, 4, 0),
     (b"0 refused NoHandle\n", 1, 1),
@@ -57,8 +57,8 @@ static LOSSES: [(&[u8], u64, u64); 4] = [
     (THREE_TURNS, 3, 1),
 ];
 
-/// Lays down that the application publishes in the first turn and puts a value in the second, and
-/// that the take and the give of these numbers fail, counted from 1, 0 for none.
+/// Sets up that the application publishes in the first turn and puts a value in the second, and
+/// that the `take` and the `give` of these numbers fail, counted from 1, 0 for none.
 fn lay_down(
     wire: &mut MemoryWire,
     failing_take: usize,
@@ -71,14 +71,14 @@ fn lay_down(
     wire.fail_give(failing_give)
 }
 
-/// A daemon over which this is laid down; None for want of memory.
+/// A daemon with this set up; None where an allocation fails.
 fn daemon(alloc: Global, failing_take: usize, failing_give: usize) -> Option<MemoryDaemon> {
     let mut wire = MemoryWire::new(alloc, 100, 100, 4096).ok()?;
     lay_down(&mut wire, failing_take, failing_give).ok()?;
     MemoryDaemon::new(alloc, CONFIG, wire, &[0, 1, 100_000, 200_000])
 }
 
-/// Asserts what so many turns offer and count over which this take and this give fail.
+/// Asserts what that many turns offer and count where this `take` and this `give` fail.
 fn failing(
     rt: &(impl Abort + AllocGlobal),
     (take, give): (usize, usize),
@@ -101,7 +101,7 @@ fn takes_and_gives_fail_in_turn(rt: HostRuntime) {
     failing(&rt, (0, 3), 4, (FOUR_TURNS, totals(2, 4, 1, 0)));
 }
 
-/// Whether a run came to one of the losses.
+/// Whether the result of a run is one of the losses.
 fn is_among(offers: &[u8], counts: Totals) -> bool {
     for (text, offered, memory) in LOSSES {
         let wanted = Totals {
@@ -115,13 +115,14 @@ fn is_among(offers: &[u8], counts: Totals) -> bool {
     false
 }
 
-/// Asserts that four turns come to one of the losses.
+/// Asserts that the result of four turns is one of the losses.
 fn counts_its_loss(rt: &(impl Abort + AllocGlobal), daemon: &mut MemoryDaemon) {
     let counts = daemon.run(4);
     assert!(rt; is_among(daemon.wire().bytes(), counts), "{counts:?}");
 }
 
-/// Passes whichever request for memory is refused: bench/refused_memory.py refuses each in turn.
+/// Passes whichever single request for memory is refused: bench/refused_memory.py refuses each in
+/// turn.
 #[test]
 fn refused_memory_is_counted(rt: HostRuntime) {
     lend(
@@ -146,7 +147,7 @@ fn leave_from_their_ports(rt: &(impl Abort + AllocGlobal), wire: &MemoryWire) {
     offers_are(rt, wire, &wanted);
 }
 
-/// Asserts from where to where the offers of three turns go, of which one is taken by itself.
+/// Asserts from where to where the offers of three turns go, one of which runs by itself.
 fn three_turns(rt: &(impl Abort + AllocGlobal), daemon: &mut MemoryDaemon) {
     daemon.turn();
     turns_give(rt, 0, daemon, 2, (THREE_TURNS, totals(2, 3, 0, 0)));

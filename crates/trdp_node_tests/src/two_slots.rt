@@ -1,7 +1,7 @@
 //! The configuration that most tests have.
 
 /// Two slots, each of four publishers, four subscriptions, one requester, two listeners, two
-/// callers and one replier. Two datasets: a count and so many 16-bit numbers; a signed number, a
+/// callers and one replier. Two datasets: a count and that many 16-bit numbers; a signed number, a
 /// time of 48 bits and a value of the first one.
 pub static CONFIG: &[u8] = b"\
 [node]

@@ -17,7 +17,7 @@ ghost use Rattle.trdp_model.specs.Datagrams.{telegram_of, is_valid_at};
 ghost use Rattle.trdp_model.specs.Alone.{view, seen_effect};
 ghost use Rattle.trdp_node_tests.specs.Views.{with_subscription};
 
-/// A slot sees its own calls, refused ones too, and admitted moments. A call of another slot, a
+/// A slot sees its own calls, refused ones too, and accepted moments. A call of another slot, a
 /// moment before the latest one, a role in group 0 and the opening of another slot drop out.
 pub fn refused_call_stays()
     ensures { (setup : NodeSetup) (n : ℕ) (quotas : List ℕ)

@@ -1,6 +1,6 @@
 -- The rows of an outbox and their bytes.
 -- For `Outbox::get`, `push`, `push_with`, `push_pd` and `push_md`.
--- By: a row names a part of the bytes, and bytes that come behind change no part.
+-- By: a row names a part of the bytes, and bytes that follow change no part.
 use Rattle.std.proofs.Common.{subst, zero, suc, ◌≡◌, ℕ, ◌+◌, ◌≤◌, List, [], ◌∷◌, ◌++◌, length}
 use Rattle.std.proofs.Common.{take, drop, map, Some, None, refl, ◌∙◌, ap, sym, arith, rules}
 use Rattle.std.specs.Prelude.{slice_get, option_map}

@@ -1,4 +1,4 @@
--- An outbox: its records, whose bytes lie one after the other in one list.
+-- An outbox: its records, whose bytes are one after the other in one list.
 use Rattle.std.specs.Prelude.{ℕ, ◌+◌, ◌≤◌, List, [], ◌∷◌, take, drop}
 use Rattle.trdp_outbox.specs.declared.row.Row.{Row}
 use Rattle.trdp_outbox.specs.declared.row.PlainAnswer.{PlainAnswer as AnyPlainAnswer}
@@ -16,7 +16,7 @@ use Rattle.trdp_model.specs.Records.{Answers, Indicates, Sends, RecordModel, Mes
 use Rattle.trdp_model.specs.Records.{ReplyModel, SilentIs, AliveIs, NotifiedIs, AskedIs}
 use Rattle.trdp_model.specs.Records.{OverrunIs, RepliedIs, ConfirmedIs, ClosedIs}
 
--- the records, how many bytes they hold, and how many more records and bytes of theirs find room
+-- the records, how many bytes they hold, and for how many more records and bytes there is room
 pub record OutboxState : Type 0 where
   pub records : List RecordModel
   pub held : ℕ
@@ -73,7 +73,7 @@ abbrev pub row_model : List ℕ → Row → RecordModel
 row_model bytes row =
     record { slot = row.slot; content = row_content row.form (take row.len (drop row.at bytes)) }
 
--- each row's bytes lie within the list
+-- each row's bytes are within the list
 abbrev pub AllWithin : ℕ → List Row → Type 0
 AllWithin n [] = Unit {0}
 AllWithin n (row ∷ rows) = (row.at + row.len ≤ n) × AllWithin n rows

@@ -1,4 +1,4 @@
--- How much room of an outbox the records of an event take, and where memory may be wanting.
+-- How much room of an outbox the records of an event take, and where an allocation may fail.
 use Rattle.std.specs.Prelude.{◌≡◌, ℕ, ◌<◌, ◌≤◌, ◌⊎◌, List, length, filter, nat_lt, Option, Some}
 use Rattle.std.specs.Prelude.{None, Bool, true, false, if◌then◌else◌}
 use Rattle.std.specs.List.{flat_map, sum_by}
@@ -23,7 +23,7 @@ use Rattle.trdp_model.specs.Moments.{is_due}
 use Rattle.trdp_model.specs.NodeModels.{NodeModel}
 use Rattle.trdp_outbox.specs.Outboxes.{OutboxState}
 
--- the outbox hasn't got that room
+-- the outbox does not have that room
 abbrev pub LacksRoom : OutboxState → Room → Type 0
 LacksRoom out room = (out.row_room < room.rows) ⊎ (out.byte_room < room.bytes)
 
@@ -36,9 +36,9 @@ pub record HasRoom (out : OutboxState) (room : Room) : Type 0 where
 abbrev pub no_room : Room
 no_room = record { rows = 0; bytes = 0 }
 
--- the most that an object of a kind gives at a moment or a telegram: a publisher the longest
--- telegram, a subscription or replier one indication, a listener one with the longest payload, a
--- caller one like that and that it is over, or the longest request again
+-- the most that an object of a kind records at a moment or a telegram. A publisher: the longest
+-- telegram. A subscription or replier: one indication. A listener: one with the longest payload. A
+-- caller: one like that and that it is over, or the longest request again
 abbrev pub kind_room : Kind → Room
 kind_room Publisher = record { rows = 1; bytes = pd_telegram_limit }
 kind_room Subscription = record { rows = 1; bytes = 0 }
@@ -47,7 +47,7 @@ kind_room Listener = record { rows = 1; bytes = md_payload_limit }
 kind_room Caller = record { rows = 2; bytes = md_telegram_limit }
 kind_room Replier = record { rows = 1; bytes = 0 }
 
--- an object of whichever kind gives no more records than this
+-- an object of any kind records no more than this many records
 abbrev pub room_rows_limit : ℕ
 room_rows_limit = 2
 
@@ -55,7 +55,7 @@ room_rows_limit = 2
 abbrev pub room_bytes_limit : ℕ
 room_bytes_limit = md_telegram_limit
 
--- room for what all these objects may give
+-- room for what all these objects may record
 abbrev pub entries_room : List Entry → Room
 entries_room entries = record {
   rows = sum_by (λ entry. (kind_room (kind_of entry.object)).rows) entries;
@@ -79,7 +79,7 @@ datagram_room globals slots (Some telegram) =
 abbrev pub answer_room : Room
 answer_room = record { rows = 2; bytes = pd_payload_limit }
 
--- room for the records of a call that sends a message of so many bytes: the answer and its telegram
+-- room for the records of a call that sends a message of n bytes: the answer and its telegram
 abbrev pub message_room : ℕ → Room
 message_room n = record {
   rows = 2;
@@ -114,13 +114,13 @@ makes_buffer (SubscribeCall terms) = true
 makes_buffer (RequestCall terms payload) = true
 makes_buffer _ = false
 
--- where memory may be wanting for a call: it makes a publisher, a subscription or a caller, or the
--- outbox lacks room for its records
+-- where an allocation may fail for a call: it makes a publisher, a subscription or a caller, or
+-- the outbox has no room for its records
 abbrev pub CallMayLack : OutboxState → CallModel → Type 0
 CallMayLack out call = (makes_buffer call ≡ true) ⊎ LacksRoom out (call_room call)
 
--- where memory may be wanting for an event: at such a call, where a slot is opened, and else where
--- the outbox lacks room for the event's records
+-- where an allocation may fail for an event: at such a call, where a slot is opened, and else
+-- where the outbox has no room for the event's records
 abbrev pub MayLackMemory : NodeModel → OutboxState → EventModel → Type 0
 MayLackMemory node out (MomentIs t) = LacksRoom out (moment_room t node.slots)
 MayLackMemory node out (TopologyIs topo) = ⊥

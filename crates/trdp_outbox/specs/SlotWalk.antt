@@ -15,6 +15,7 @@ pub record IsNextSlot (s t : ℕ) (records : List RecordModel) : Type 0 where
   pub some : slots_own t records ≢ []
 
 -- the least slot above that has a record, if one has
+-- rule: out.order
 abbrev pub NextSlotIs : ℕ → List RecordModel → Option ℕ → Type 0
 NextSlotIs s records None = (t : ℕ) → s < t → slots_own t records ≡ []
 NextSlotIs s records (Some t) = IsNextSlot s t records

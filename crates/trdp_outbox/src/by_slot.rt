@@ -16,11 +16,11 @@ use trdp_model::Record;
 pub struct BySlot<'a> {
     /// The outbox whose records they are.
     outbox: &'a Outbox,
-    /// Whether they stand in that order, so that each comes behind the one before.
+    /// Whether they are in that order already, so that the list is walked once, in its own order.
     rising: bool,
-    /// The slot whose records are coming, if they don't.
+    /// The slot whose records are walked, if they aren't; else it says nothing.
     slot: u16,
-    /// The index of the first record that may come next: of any slot, or of this one.
+    /// The index of the first record that may come next: of any slot if `rising`, else of `slot`.
     at: usize,
 }
 
@@ -106,7 +106,7 @@ fn next_of_slot(outbox: &Outbox, slot: u16, at: usize) -> Option<usize>
     None
 }
 
-/// The least slot above that has a record, if one has.
+/// The least slot above `slot` that has a record; None where none has.
 fn slot_above(outbox: &Outbox, slot: u16) -> Option<u16>
     ensures { NextSlotIs slot outbox.now.records result }
 {
@@ -117,7 +117,7 @@ fn slot_above(outbox: &Outbox, slot: u16) -> Option<u16>
     least
 }
 
-/// The least slot above that has a record, of some records and one more of that slot.
+/// The least slot above `slot` that has a record, of some records and one more of slot `other`.
 fn nearer(slot: u16, least: Option<u16>, other: u16) -> Option<u16>
     ensures { (records : List RecordModel) (r : RecordModel) → r.slot ≡ other
         → NextSlotIs slot records least → NextSlotIs slot (records ++ r ∷ []) result }
@@ -131,7 +131,8 @@ fn nearer(slot: u16, least: Option<u16>, other: u16) -> Option<u16>
     }
 }
 
-/// Whether no record is of a lower slot than the one before it: such records go out as they stand.
+/// Whether no record is of a lower slot than the one before it: such records go out in their
+/// order.
 fn is_rising(outbox: &Outbox) -> bool
     ensures { result ≡ true → by_slot outbox.now.records ≡ outbox.now.records }
 {

@@ -1,7 +1,7 @@
-//! What a node gives its slots: records in their order, with the bytes of all in one list.
+//! The outbox of a node: records for its slots, in order, with the bytes of all in one list.
 //!
-//! An [`Outbox`] holds them; [`Outbox::by_slot`] walks over them slot by slot, and a [`Room`] is
-//! how many records and bytes an object or a call may give at most.
+//! An [`Outbox`] holds the records, and [`Outbox::by_slot`] walks over them slot by slot. A
+//! [`Room`] is the largest number of records and bytes that an object or a call may add.
 //!
 //! ```text
 //! let mut out = Outbox::new(alloc);
@@ -11,11 +11,8 @@
 //! out.get(0)                                       // Record { slot: 0, what: Answer(Done) }
 //! ```
 //!
-//! Room is made before an event changes anything ([`Outbox::reserve`]), as much as the objects that
-//! act may give at most; no push takes memory.
-//!
-//! What no contract can say is that memory is there: a `reserve` that is always refused meets its
-//! contract where room is wanting.
+//! The node makes room before an event changes anything ([`Outbox::reserve`]): as much as the
+//! objects that act may need at most. No push takes memory.
 #![tactic(auto)]
 
 mod by_slot;

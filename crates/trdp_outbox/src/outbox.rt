@@ -1,4 +1,4 @@
-//! What a node gives its slots, in order.
+//! The records for the slots of a node, in order.
 
 ghost use Rattle.std.specs.Prelude.{◌≡◌, ℕ, ◌+◌, ◌<◌, ◌≤◌, ◌↔◌, ◌++◌, ◌∷◌, length, []};
 ghost use Rattle.std.specs.Prelude.{OnOk, OnErr, IsTrue, ◌⊎◌, slice_get, option_map};
@@ -102,7 +102,7 @@ impl Outbox {
         BySlot::new(self)
     }
 
-    /// Drops all records, and keeps the memory: what they took is room again.
+    /// Drops all records and keeps their memory as room for others.
     pub fn clear(&mut self)
         ensures records { self.new.records ≡ [] }
         ensures row_room { self.old.row_room + length self.old.records ≤ self.new.row_room }
@@ -112,10 +112,10 @@ impl Outbox {
         self.bytes.clear();
     }
 
-    /// Makes room for so many more records and so many bytes of theirs.
+    /// Makes room for `rows` more records with `bytes` bytes in all.
     ///
     /// # Errors
-    /// Want of memory for that room.
+    /// [`AllocError`] where there is no memory for that room. The records stay.
     pub fn reserve(&mut self, rows: usize, bytes: usize) -> Result<(), AllocError>
         ensures records { self.new.records ≡ self.old.records }
         ensures rows { OnOk result (rows ≤ self.new.row_room) }
@@ -202,7 +202,7 @@ impl Outbox {
         );
     }
 
-    /// Adds that a listener heard a request, which the replier is to answer.
+    /// Adds that a listener heard a request, which the replier must answer.
     pub fn push_asked(
         &mut self,
         slot: u16,
@@ -227,7 +227,7 @@ impl Outbox {
         self.push_with(slot, form, message.payload);
     }
 
-    /// Adds that a caller took an answer.
+    /// Adds that a caller received an answer.
     pub fn push_replied(&mut self, slot: u16, handle: u32, reply: &Reply<'_>)
         requires row { 0 < self.old.row_room }
         requires bytes { length reply.now.payload.now ≤ self.old.byte_room }
@@ -287,7 +287,7 @@ impl Outbox {
     }
 }
 
-/// A message but for its payload.
+/// A message without its payload.
 fn heading_of(message: &Message<'_>) -> Heading
     ensures { headed result message.now.payload.now ≡ message_model message.now }
 {
@@ -299,12 +299,14 @@ fn heading_of(message: &Message<'_>) -> Heading
     }
 }
 
+/// The i-th row, from 0; None past the last.
 fn row_at(rows: &[Row], i: usize) -> Option<&Row>
     ensures { option_copied result ≡ slice_get rows.now i }
 {
     rows.get(i)
 }
 
+/// The bytes of a row.
 fn part<'a>(bytes: &'a [u8], row: &Row) -> &'a [u8]
     requires { row.now.at + row.now.len ≤ length bytes.now }
     ensures { result.now ≡ take row.now.len (drop row.now.at bytes.now) }
@@ -312,7 +314,7 @@ fn part<'a>(bytes: &'a [u8], row: &Row) -> &'a [u8]
     &bytes[row.at..row.at + row.len]
 }
 
-/// Adds bytes at the end, within the room, and answers how many.
+/// Adds bytes at the end, within the room, and returns how many.
 fn append(bytes: &mut Vec<u8>, more: &[u8]) -> usize
     requires { vec_len bytes.old + length more.now ≤ vec_capacity bytes.old }
     ensures items { bytes.new.items ≡ bytes.old.items ++ more.now }

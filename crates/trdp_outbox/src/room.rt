@@ -9,12 +9,12 @@ ghost use Rattle.trdp_outbox.specs.Rooms.{confirm_room};
 use trdp_head::{MD_PAYLOAD_MAX, MD_TELEGRAM_MAX, PD_PAYLOAD_MAX, PD_TELEGRAM_MAX, md_length};
 use trdp_model::{AnyObject, Call};
 
-/// Room in an outbox: for so many records, and so many bytes of theirs.
+/// Room in an outbox: a number of records and a number of bytes.
 #[derive(Clone, Copy)]
 pub struct Room {
-    /// Records.
+    /// How many records.
     pub rows: usize,
-    /// Bytes of their telegrams and values, all together.
+    /// How many bytes their telegrams and values have together.
     pub bytes: usize,
 }
 
@@ -39,7 +39,7 @@ impl Room {
         }
     }
 
-    /// The most that the object gives at a moment or a telegram.
+    /// The most that the object records at a moment or a telegram.
     pub fn of(object: &AnyObject) -> Room
         ensures { result ≡ kind_room (kind_of object.now) }
     {
@@ -61,7 +61,7 @@ impl Room {
         }
     }
 
-    /// The most that a call gives.
+    /// The most that a call records.
     pub fn of_call(call: &Call<'_>) -> Room
         ensures { result ≡ call_room (call_model call.now) }
     {
@@ -81,7 +81,7 @@ impl Room {
         }
     }
 
-    /// The most that a call which sends a message of so many bytes gives.
+    /// The most that a call records which sends a message with that many bytes of payload.
     fn of_message(len: usize) -> Room
         ensures { result ≡ message_room len }
     {
@@ -93,7 +93,7 @@ impl Room {
         Room { rows: 2, bytes }
     }
 
-    /// The most that a confirmation gives.
+    /// The most that a confirmation records.
     fn of_confirmation() -> Room
         ensures { result ≡ confirm_room }
     {

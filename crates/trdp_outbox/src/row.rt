@@ -1,4 +1,4 @@
-//! The rows of an outbox: records whose bytes lie elsewhere.
+//! The rows of an outbox: records whose bytes are in a list of their own.
 
 ghost use Rattle.std.specs.Prelude.{◌≡◌, ◌+◌, ◌<◌, ◌≤◌, ◌++◌, ◌∷◌, [], vec_len, vec_capacity};
 ghost use Rattle.trdp_model.specs.Records.{answer_model, content_model, message_model};
@@ -18,13 +18,13 @@ pub enum PlainAnswer {
     Handle(u32),
     /// The call took effect.
     Done,
-    /// The call was refused so.
+    /// The call was refused for this reason.
     Refused(Refusal),
     /// The slot was opened.
     Opened,
 }
 
-/// What a slot is told of a message, but for its payload.
+/// What a slot receives of a message, without its payload.
 #[derive(Clone, Copy)]
 pub struct Heading {
     /// The address and port that it came from.
@@ -37,7 +37,7 @@ pub struct Heading {
     pub dest_uri: Uri,
 }
 
-/// What a caller's slot is told of an answer, but for its payload.
+/// What a caller's slot receives of an answer, without its payload.
 #[derive(Clone, Copy)]
 pub struct ReplyHeading {
     /// The address and port that it came from.
@@ -50,12 +50,13 @@ pub struct ReplyHeading {
     pub com_id: u32,
 }
 
-/// What a row says, but for its bytes.
+/// What a row says, without its bytes.
 #[derive(Clone, Copy)]
 pub enum Form {
     /// An answer without bytes.
     PlainAnswer(PlainAnswer),
-    /// What a subscription shows: how good its value is and the counter that came with it.
+    /// What a subscription shows: the state of its value and the sequence counter that came with
+    /// it.
     Value(ValueState, u32),
     /// The subscription of this handle fell silent.
     Silent(u32),
@@ -64,26 +65,26 @@ pub enum Form {
     /// The listener of this handle heard a notification under that heading.
     Notified(u32, Heading),
     /// The listener of this handle heard a request of that session, under that heading, which the
-    /// replier of the second handle is to answer.
+    /// replier of the second handle must answer.
     Asked(u32, u32, SessionId, Heading),
     /// The listener of this handle heard a request, and there is no room for its replier.
     Overrun(u32),
-    /// The caller of this handle took an answer under that heading.
+    /// The caller of this handle received an answer under that heading.
     Replied(u32, ReplyHeading),
     /// The replier of this handle was confirmed with this status.
     Confirmed(u32, i32),
     /// The caller or replier of this handle is over, for this reason.
     Closed(u32, Reason),
-    /// A telegram of the protocol, to be sent to that place.
+    /// A telegram of the protocol, to be sent to that `Place`.
     Send(Protocol, Place),
 }
 
-/// A record whose bytes lie in the outbox's list.
+/// A record whose bytes are in the outbox's list.
 #[derive(Clone, Copy)]
 pub struct Row {
     /// The number of the slot that it is for, from 0.
     pub slot: u16,
-    /// What it says, but for its bytes.
+    /// What it says, without its bytes.
     pub form: Form,
     /// The index of its first byte in the outbox's list.
     pub at: usize,

@@ -1,4 +1,4 @@
-//! Texts and numbers that others gave, and the limits of what they stand for.
+//! Texts and numbers from other sources, and the limits of what they mean.
 
 use crate::same::same;
 use std::alloc::AllocError;
@@ -37,6 +37,7 @@ static NO_PLACES: [&str; 7] = [
     "010.0.0.1:1",
 ];
 
+// rule: text.address text.place
 #[test]
 fn reads_addresses_and_places(rt: HostRuntime) {
     same(&rt, "an address", read_ip(b"10.0.0.2"), Ok(ADDRESS));
@@ -63,6 +64,7 @@ static NUMBERS: [(&str, u64); 3] = [
 /// No numbers of 0 to 7.
 static NO_NUMBERS: [&str; 7] = ["", "00", "07", "+7", "-7", "8", "18446744073709551616"];
 
+// rule: text.number
 #[test]
 fn reads_numbers(rt: HostRuntime) {
     for (text, number) in &NUMBERS {
@@ -102,6 +104,7 @@ fn reads_as(rt: &(impl Abort + AllocGlobal), text: &str, wanted: Result<&[u8], T
     }
 }
 
+// rule: text.hex
 #[test]
 fn reads_bytes(rt: HostRuntime) {
     for (text, wanted) in &HEX {
@@ -120,7 +123,7 @@ fn ones(bytes: &[u8]) -> usize {
     count
 }
 
-// More digits than a line of 140,000 bytes can hold behind its first word.
+// More digits than a line of 140,000 bytes can hold after its first word.
 #[test]
 fn reads_the_bytes_of_a_longest_line(rt: HostRuntime) -> Result<(), Fail> {
     let digits = vec![in rt.alloc(); b'f'; 139_998]?;
@@ -140,7 +143,7 @@ fn print_all(out: &mut Vec<u8>) -> Result<(), AllocError> {
     push_session(out, SessionId(1))
 }
 
-/// What it comes to.
+/// The result.
 const PRINTED: &[u8] = b"18446744073709551615-10.0.0.20a0b255.255.255.255:65535\
     -214748364800000000-0000-0000-0000-000000000001";
 
@@ -157,6 +160,7 @@ fn moment(number: u64) -> Option<u64> {
     Some(Moment::new(number)?.get())
 }
 
+// rule: time.range
 #[test]
 fn moments_have_a_last(rt: HostRuntime) {
     let ends = (
@@ -173,18 +177,21 @@ fn quotas(first: u16, last: u16) -> Option<(u16, u16)> {
     Some((quotas.get(0), quotas.get(5)))
 }
 
+// rule: slot.quota
 #[test]
 fn quotas_have_a_limit(rt: HostRuntime) {
     let found = [quotas(256, 4), quotas(257, 0), quotas(0, 257)];
     same(&rt, "256 and 257", found, [Some((256, 4)), None, None]);
 }
 
+// rule: text.uri
 #[test]
 fn uris_have_a_limit(rt: HostRuntime) {
     assert!(rt; Uri::new(&[0x61; 32]) == Some(Uri::from_field(&[0x61; 32])));
     assert!(rt; Uri::new(&[0x61; 33]).is_none() && Uri::new(b"a\0b").is_none());
 }
 
+// rule: telegram.uri
 #[test]
 fn uris_end_at_a_zero(rt: HostRuntime) {
     let uri = Uri::from_field(b"ab\0c");
@@ -219,6 +226,7 @@ static STATUSES: [(&str, i32); 4] = [
 
 static NO_STATUSES: [&str; 7] = ["", "-", "-0", "01", "+1", "2147483648", "-2147483649"];
 
+// rule: text.status
 #[test]
 fn reads_statuses(rt: HostRuntime) {
     for (text, status) in &STATUSES {

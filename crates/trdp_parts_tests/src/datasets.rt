@@ -1,6 +1,6 @@
-//! Datasets of a file: their elements, the types by name and by number, what counts the items of an
-//! array, values of one length, and the sentences of faults. What a configuration means, and which
-//! fault one has, the program tells (`rows`, `bench/config_words.py`).
+//! Datasets of a file: their elements, the types by name and by number, what counts the items of
+//! an array, values of one length, and the sentences of faults. The program shows what a
+//! configuration means, and which fault one has (`rows`, `bench/config_words.py`).
 
 use crate::same::same;
 use std::alloc::Global;
@@ -65,7 +65,7 @@ fn fault_of(rt: &(impl Abort + AllocGlobal), bytes: &[u8]) -> Option<ConfigFault
     Registry::from_toml(rt.alloc(), bytes).err()
 }
 
-/// The file of datasets alone is read, whatever a node wants of the rest.
+/// The file of datasets alone is read, whatever else a node needs.
 #[test]
 fn reads_datasets(rt: HostRuntime) {
     let faults = [fault_of(&rt, &[0xff]), fault_of(&rt, b"node = 5\nslot = 5")];
@@ -137,6 +137,7 @@ static COUNTS: [(ElementKind, u16, bool); 4] = [
     (ElementKind::Bool8, 1, false),
 ];
 
+// rule: dataset.counted
 #[test]
 fn counts_items(rt: HostRuntime) {
     for (index, (kind, size, counts)) in COUNTS.iter().enumerate() {

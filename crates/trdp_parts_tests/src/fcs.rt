@@ -1,4 +1,4 @@
-//! Checks that were published, or that zlib gives.
+//! Frame checks that were published, or that zlib computes.
 
 ghost use Rattle.std.specs.Prelude.{◌≤◌};
 
@@ -6,6 +6,7 @@ use crate::plain;
 use crate::same::same;
 use trdp_fcs::{Running, frame_check};
 
+// rule: telegram.crc
 #[test]
 fn texts_have_the_published_checks(rt: HostRuntime) {
     for (text, check) in [("", 0), ("a", 0xe8b7_be43), ("123456789", 0xcbf4_3926)] {
@@ -42,7 +43,7 @@ fn tables_agree_with_single_bits(rt: HostRuntime) {
     }
 }
 
-/// The check of so many bytes `i * 7 + 3` modulo 256.
+/// The check of that many bytes `i * 7 + 3` modulo 256.
 fn check_of_pattern(length: usize) -> u32
     requires { length ≤ 1472 }
 {

@@ -1,5 +1,5 @@
-//! Which counts match, what passes at the ends of a range, and which groups a node leads. What
-//! passes the filters of objects otherwise, scripts show (`rows`).
+//! Which topology counters match, what passes at the ends of a range, and which groups a node
+//! leads. Scripts show what else passes the filters of objects (`rows`).
 
 use crate::same::same;
 use trdp_base::{Ip, Place, SessionId, Topo, Uri};
@@ -8,16 +8,17 @@ use trdp_head::{MdHead, MdKind, PdHead, PdKind};
 
 const ANY: Topo = Topo { etb: 0, op_trn: 0 };
 
-/// Two topology counts, and whether they match.
+/// Two topology counters, and whether they match.
 static COUNTS: [(u32, u32, bool); 4] = [(7, 8, false), (7, 0, true), (0, 8, true), (7, 7, true)];
 
-/// Whether the counts match, by themselves and as either count of a node.
+/// Whether the counters match, by themselves and as either counter of a node.
 fn matches(a: u32, b: u32) -> [bool; 3] {
     let first = topo_valid(Topo { etb: a, op_trn: 1 }, Topo { etb: b, op_trn: 1 });
     let last = topo_valid(Topo { etb: 1, op_trn: a }, Topo { etb: 1, op_trn: b });
     [valid(a, b), first, last]
 }
 
+// rule: topology.match
 #[test]
 fn counts_match(rt: HostRuntime) {
     for (index, (a, b, wanted)) in COUNTS.iter().enumerate() {
@@ -78,7 +79,7 @@ fn message_passes(low: u32, high: u32, source: u32) -> bool {
 }
 
 /// The ends of a range, a source, and whether what comes from there passes. No script has a range
-/// whose end is below its beginning.
+/// whose end is below its start.
 static RANGES: [(u32, u32, u32, bool); 4] = [
     (0, 0, 9, true),
     (0, 4, 4, true),
@@ -86,6 +87,7 @@ static RANGES: [(u32, u32, u32, bool); 4] = [
     (2, 0, 3, false),
 ];
 
+// rule: filter.source
 #[test]
 fn ranges_have_both_their_ends(rt: HostRuntime) {
     for (index, (low, high, source, wanted)) in RANGES.iter().enumerate() {
@@ -100,6 +102,7 @@ fn ends(led: &Groups) -> (bool, bool) {
     (led.leads(1), led.leads(255))
 }
 
+// rule: role.group
 #[test]
 fn a_node_leads_groups_1_to_255(rt: HostRuntime) {
     let mut led = Groups::none();

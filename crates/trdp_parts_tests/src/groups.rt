@@ -1,4 +1,4 @@
-//! The groups of a configuration and its time to live, of which the program prints nothing.
+//! The groups of a configuration and its time to live, which the program doesn't print.
 
 use crate::same::same;
 use trdp_dataset::NodeConfig;

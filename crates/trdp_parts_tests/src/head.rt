@@ -59,6 +59,7 @@ fn telegrams_are_read(rt: HostRuntime) {
     assert!(rt; reads(&REQUEST, REQUEST_HEAD, b"\x0a\x0b\x0c"));
 }
 
+// rule: telegram.layout telegram.written
 #[test]
 fn telegrams_are_written(rt: HostRuntime) {
     let mut room = [0xff; 44];
@@ -171,6 +172,7 @@ fn data_with(offset: usize, bytes: [u8; 2], check: [u8; 4]) -> [u8; 44]
     telegram
 }
 
+// rule: telegram.fault telegram.check
 #[test]
 fn changed_telegrams_have_their_faults(rt: HostRuntime) {
     for row in &CHANGED {
@@ -181,7 +183,7 @@ fn changed_telegrams_have_their_faults(rt: HostRuntime) {
     }
 }
 
-/// What is read of so many bytes of the telegram: the length of its payload.
+/// What is read of that many bytes of the telegram: the length of its payload.
 fn cut_to(length: usize) -> Result<usize, HeadFault> {
     match length {
         0..=39 => Err(HeadFault::Short),
@@ -190,6 +192,7 @@ fn cut_to(length: usize) -> Result<usize, HeadFault> {
     }
 }
 
+// rule: telegram.length
 #[test]
 fn a_telegram_is_cut(rt: HostRuntime) {
     for length in 0..DATA.len() + 1 {
@@ -226,6 +229,7 @@ fn telegrams_have_at_most_1472_bytes(rt: HostRuntime) {
     }
 }
 
+// rule: telegram.padding
 #[test]
 fn lengths_are_multiples_of_four(rt: HostRuntime) {
     for (payload, length) in [(0, 40), (1, 44), (4, 44), (1432, 1472)] {

@@ -6,7 +6,7 @@ use std::test::Fail;
 use trdp_base::SessionId;
 use trdp_index::{ComIndex, ComRow, Role, SessionIndex};
 
-/// Rows of four comIds, in no order: comId, slot, handle and key, which is the row's place in the
+/// Rows of four comIds, in no order: comId, slot, handle and key, which is the row's index in the
 /// order of all.
 static ROWS: [(Option<u32>, u16, u32, usize); 8] = [
     (Some(200), 0, 1, 5),
@@ -20,8 +20,8 @@ static ROWS: [(Option<u32>, u16, u32, usize); 8] = [
 ];
 
 /// A comId, the key of its first row, how many rows it has, and the comparisons of two searches,
-/// each of which halves the rows that are left: for the first row of the comId, and for the first
-/// behind them among those from there on.
+/// each of which halves the rows that are left. They look for the first row of the comId, and for
+/// the first after its rows among those from there on.
 type Run = (Option<u32>, usize, usize, u64);
 
 static RUNS: [Run; 8] = [
@@ -59,7 +59,7 @@ fn add(rt: &impl Abort, index: &mut ComIndex, row: ComRow) {
     assert!(rt; index.has(row.com_id, row.slot, row.handle));
 }
 
-/// The run of a comId has so many rows, whose keys follow one another, and took so many
+/// The run of a comId has that many rows, whose keys follow one another, and took that many
 /// comparisons.
 fn runs(
     rt: &(impl Abort + AllocGlobal),
@@ -121,7 +121,7 @@ fn open(rt: &impl Abort, index: &mut SessionIndex, slot: u16, role: Role, key: u
     index.insert(SessionId(1), slot, role, key);
 }
 
-/// What stands in the index of two slots' sessions: session, slot, role and key.
+/// The contents of the index of two slots' sessions: session, slot, role and key.
 static SESSIONS: [(u128, u16, Role, Option<usize>); 5] = [
     (1, 0, Role::Caller, Some(6)),
     (1, 1, Role::Caller, Some(5)),

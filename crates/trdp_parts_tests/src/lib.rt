@@ -1,7 +1,7 @@
 //! Worked examples of the crates below the node, with values from outside: texts, telegrams from
 //! the standard's layout with zlib's CRC-32, datasets, values beside their bytes, and the calls of
-//! objects, filters, tables, indexes and timers. What each of them does is proved where it stands,
-//! and what a script can say of it stands in `rows`.
+//! objects, filters, tables, indexes and timers. What each of them does is proved in its own
+//! crate. What a script can show of it is in the folder `rows` of the repository.
 #![tactic(auto)]
 
 #[cfg(test)]

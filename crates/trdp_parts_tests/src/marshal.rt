@@ -1,4 +1,4 @@
-//! Values beside the bytes that the standard's layout gives them, and what is refused.
+//! Values beside their bytes by the standard's layout, and what is refused.
 
 use crate::same::same;
 use std::alloc::{AllocError, Global};
@@ -56,12 +56,12 @@ fn counted(alloc: Global) -> Result<Item, AllocError> {
     pair(alloc, Item::U(2), array)
 }
 
-/// A value of dataset 1001 but for its first entry, with no item in its array.
+/// A value of dataset 1001 without its first entry, with no item in its array.
 fn uncounted(alloc: Global, first: Item) -> Result<Item, AllocError> {
     pair(alloc, first, Item::List(Vec::new(alloc)))
 }
 
-/// A value of dataset 1003 with so many items in its array.
+/// A value of dataset 1003 with that many items in its array.
 fn long(alloc: Global, count: u32) -> Result<Item, AllocError> {
     let mut array = Vec::new(alloc);
     for _ in 0..count {
@@ -78,7 +78,7 @@ fn longest_bytes(alloc: Global) -> Result<Vec<u8>, AllocError> {
     Ok(bytes)
 }
 
-/// The item is spelled by these bytes, and its clone is equal to it.
+/// These bytes decode to the item, and its clone is equal to it.
 fn spells(
     rt: &(impl Abort + AllocGlobal),
     registry: &Registry,
@@ -92,7 +92,7 @@ fn spells(
     is_written(rt, registry, id, &item, bytes)
 }
 
-/// The item gives these bytes, and its clone is equal to it.
+/// The item encodes to these bytes, and its clone is equal to it.
 fn is_written(
     rt: &(impl Abort + AllocGlobal),
     registry: &Registry,
@@ -227,6 +227,7 @@ fn write_zeros(rt: &(impl Abort + AllocGlobal), registry: &Registry) {
     assert!(rt; fits(registry, 1002, &[0; 9]));
 }
 
+// rule: dataset.packed dataset.array dataset.zero dataset.any
 #[test]
 fn values_have_their_bytes(rt: HostRuntime) -> Result<(), Fail> {
     let registry = Registry::from_toml(rt.alloc(), DATASETS)?;

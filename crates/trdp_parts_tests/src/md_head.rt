@@ -81,14 +81,16 @@ fn reads(bytes: &[u8], head: MdHead, payload: &[u8]) -> bool {
     }
 }
 
+// rule: telegram.uri telegram.verbatim
 #[test]
 fn telegrams_are_read(rt: HostRuntime) {
     assert!(rt; reads(&QUERY, query_head(), &[0x0a, 0x0b, 0x0c]));
-    // What stands behind the first zero byte of the source URI is ignored.
+    // What follows the first zero byte of the source URI is ignored.
     let tail = with_change(&QUERY, 52, *b"zz", [0x9c, 0x42, 0x71, 0x19]);
     assert!(rt; reads(&tail, query_head(), &[0x0a, 0x0b, 0x0c]));
 }
 
+// rule: telegram.layout
 #[test]
 fn telegrams_are_written(rt: HostRuntime) {
     let mut room = [0xff; 120];
@@ -156,7 +158,7 @@ fn changed_telegrams_have_their_faults(rt: HostRuntime) {
     }
 }
 
-/// What is read of so many bytes of the telegram: the length of its payload.
+/// What is read of that many bytes of the telegram: the length of its payload.
 fn cut_to(length: usize) -> Result<usize, HeadFault> {
     match length {
         0..=115 => Err(HeadFault::Short),
@@ -198,6 +200,7 @@ fn telegrams_have_at_most_65504_bytes(rt: HostRuntime) {
     }
 }
 
+// rule: telegram.padding
 #[test]
 fn lengths_are_multiples_of_four(rt: HostRuntime) {
     for (payload, length) in [(0, 116), (1, 120), (65388, 65504)] {

@@ -1,4 +1,4 @@
-//! Each call of an object. What objects do, telegram by telegram and moment by moment, scripts show
+//! Each call of an object. Scripts show what objects do, telegram by telegram and moment by moment
 //! (`rows`).
 
 ghost use Rattle.std.specs.Prelude.{◌≤◌};
@@ -222,8 +222,8 @@ fn listener(rt: HostRuntime) {
     on_moment(&rt, &mut l, u32::MAX, None);
 }
 
-/// What a caller asks for that expects one answer within 1,000 microseconds, and sends its request
-/// again once at most.
+/// The terms of a caller that expects one answer within 1,000 microseconds, and sends its request
+/// again at most once.
 fn asks() -> CallerTerms {
     CallerTerms {
         com_id: 300,
@@ -238,7 +238,7 @@ fn asks() -> CallerTerms {
     }
 }
 
-/// It passes whichever request for memory is refused.
+/// It passes whichever single request for memory is refused.
 #[test]
 fn caller_keeps_its_payload(rt: HostRuntime) -> Result<(), Fail> {
     let terms = asks();
@@ -250,7 +250,7 @@ fn caller_keeps_its_payload(rt: HostRuntime) -> Result<(), Fail> {
     Ok(())
 }
 
-/// The caller, which has one answer that is to be confirmed, is over once it is.
+/// The caller, which has one answer that awaits a confirmation, is over once it has confirmed it.
 fn is_confirmed(rt: &impl Abort, caller: &mut Caller) {
     assert!(rt; caller.answers().len() == 1 && caller.closed().is_none());
     assert!(rt; caller.awaits(THERE) && caller.confirm(THERE));
@@ -297,6 +297,7 @@ fn is_head(head: MdHead, kind: MdKind, status: i32, timeout: u32, source_uri: Ur
         && head.source_uri == source_uri
 }
 
+// rule: replier.answer confirmation.fields
 #[test]
 fn headers_of_a_session(rt: HostRuntime) -> Result<(), Fail> {
     let terms = asks();
@@ -312,6 +313,7 @@ fn headers_of_a_session(rt: HostRuntime) -> Result<(), Fail> {
     Ok(())
 }
 
+// rule: notification.fields
 #[test]
 fn notification_of_no_session(rt: HostRuntime) {
     let sent = notification(&NotifyTerms {

@@ -1,4 +1,4 @@
-//! The frame check bit by bit, as it is defined: what the tables are compared with in tests.
+//! The frame check bit by bit, as it is defined: tests compare the tables with it.
 
 /// The generator of IEEE 802.3, 0x104C11DB7, without its first bit and from the lowest bit up.
 const GENERATOR: u32 = 0xEDB8_8320;

@@ -1,5 +1,5 @@
-//! Handles, the last one too, keys and room of a table, and a slot that is added. Which slots and
-//! objects a node takes scripts show (`rows`).
+//! Handles, the last one too, keys and room of a table, and a slot that is added. Scripts show
+//! which slots and objects a node accepts (`rows`).
 
 use crate::same::same;
 use std::alloc::{AllocError, Global};
@@ -13,18 +13,18 @@ use trdp_table::{Table, TableFault, room_of};
 /// What is done to a table.
 #[derive(Clone, Copy)]
 enum Does {
-    /// A slot for so many requesters is added, and this is its number.
+    /// A slot for that many requesters is added, and this is its number.
     AddSlot(u16, u16),
     /// A requester of this comId is added to the slot, and this is the answer.
     Add(u16, u32, Result<u32, TableFault>),
-    /// The slot's object of this handle is removed, which there is or isn't.
+    /// The slot's object of this handle is removed, and whether there was one.
     Remove(u16, u32, bool),
     /// The slot's next handle becomes at least this.
     Raise(u16, u32),
 }
 
 /// Two slots, and a third one that is added last; what is there stays. A key that is free again
-/// stands under the slot and the handle of its next object.
+/// gets the slot and the handle of its next object.
 static ROWS: [Does; 14] = [
     Does::AddSlot(1, 0),
     Does::AddSlot(2, 1),
@@ -68,7 +68,7 @@ fn com_ids(table: &mut Table, key: usize) -> Option<(Option<u32>, Option<u32>)> 
     Some((seen, changed))
 }
 
-/// The requester of that handle and comId stands last in the slot, and is reached by its key.
+/// The requester of that handle and comId is the last of the slot, and is reached by its key.
 fn stands_last(
     rt: &(impl Abort + AllocGlobal),
     table: &mut Table,
@@ -87,7 +87,7 @@ fn stands_last(
     same(rt, com_id, com_ids(table, key), wanted);
 }
 
-/// Adds a requester, which gets a handle or comes back with the fault that was foretold.
+/// Adds a requester, which gets a handle or comes back with the fault that `refuses` reported.
 fn add(
     rt: &(impl Abort + AllocGlobal),
     table: &mut Table,
@@ -108,7 +108,7 @@ fn add(
     }
 }
 
-/// Removes an object, whose key is nobody's then, and answers whether it was there.
+/// Removes an object, whose key belongs to no object then, and returns whether it was there.
 fn remove(rt: &impl Abort, table: &mut Table, slot: u16, handle: u32) -> bool {
     assert!(rt; usize::from(slot) < table.slots());
     let key = table.find(slot, handle).unwrap_or(table.room());
@@ -116,7 +116,7 @@ fn remove(rt: &impl Abort, table: &mut Table, slot: u16, handle: u32) -> bool {
     removed && table.owner(key).is_none()
 }
 
-/// Adds a slot for so many requesters, for which the table gets room.
+/// Adds a slot for that many requesters, for which the table gets room.
 fn add_slot(table: &mut Table, requesters: u16) -> Option<(u16, bool)> {
     let quotas = Quotas::new([0, 0, requesters, 0, 0, 0])?;
     let room = table.room();
@@ -125,7 +125,7 @@ fn add_slot(table: &mut Table, requesters: u16) -> Option<(u16, bool)> {
     Some((number, more == room_of(quotas)))
 }
 
-/// Does this to the table, which answers as it says.
+/// Does this to the table, and asserts the result.
 fn act(rt: &(impl Abort + AllocGlobal), table: &mut Table, case: usize, does: Does) {
     match does {
         Does::AddSlot(requesters, number) => {
@@ -157,8 +157,7 @@ fn tables_do_as_their_rows_say(rt: HostRuntime) -> Result<(), Fail> {
     Ok(())
 }
 
-/// The answer to one more slot, which is asked for again where memory was refused and nothing has
-/// changed.
+/// The result of adding one more slot, again where memory was refused and nothing has changed.
 fn added(rt: &impl Abort, table: &mut Table, quotas: Quotas) -> Result<u16, TableFault> {
     match table.add_slot(quotas) {
         Err(TableFault::OutOfMemory) => {
@@ -169,7 +168,7 @@ fn added(rt: &impl Abort, table: &mut Table, quotas: Quotas) -> Result<u16, Tabl
     }
 }
 
-/// A table of two slots, which is asked for again where memory was refused.
+/// A table of two slots, made again where memory was refused.
 fn two_slots(alloc: Global, two: Quotas) -> Result<Table, AllocError> {
     match Table::new(alloc, &[two, two]) {
         Ok(table) => Ok(table),
@@ -177,7 +176,7 @@ fn two_slots(alloc: Global, two: Quotas) -> Result<Table, AllocError> {
     }
 }
 
-/// It passes whichever request for memory is refused.
+/// It passes whichever single request for memory is refused.
 #[test]
 fn a_slot_is_added_again(rt: HostRuntime) -> Result<(), Fail> {
     let two = Quotas::new([2, 0, 0, 0, 0, 0]).ok_or("no quotas")?;

@@ -8,7 +8,7 @@ use trdp_timers::{Order, Timers};
 /// An order as its due moment, slot and handle.
 type Parts = (u64, u16, u32);
 
-/// A call, with what it answers.
+/// A call, with its result.
 #[derive(Clone, Copy)]
 enum Does {
     /// The key gets this order.
@@ -17,14 +17,14 @@ enum Does {
     Clear(usize),
     /// This key is shown as the first, with its order.
     First(Option<(usize, Parts)>),
-    /// This key is taken as the first, with its order.
+    /// This key is taken out as the first, with its order.
     Pop(Option<(usize, Parts)>),
-    /// By this moment keys of so large a size, together, are due, and so many of them.
+    /// By this moment keys of this total size are due, and this many.
     DueTotals(u64, (u64, u64)),
 }
 
-/// Calls with their comparisons, on timers with room for eight keys: one with the order that stood
-/// at the place before, and those on the way down and up the heap.
+/// Calls with their comparisons, on timers with room for eight keys: one with the order that was
+/// at the index before, and those on the way down and up the heap.
 static ROWS: [(Does, u64); 20] = [
     (Does::Set(0, (60, 0, 1)), 1),
     (Does::Set(1, (50, 0, 2)), 2),
@@ -65,7 +65,7 @@ fn found(wanted: Option<(usize, Parts)>) -> Option<(usize, Order)> {
     }
 }
 
-/// Makes the call, which answers as it should.
+/// Makes the call, and asserts its result.
 fn act(rt: &(impl Abort + AllocGlobal), timers: &mut Timers, case: usize, does: Does) {
     match does {
         Does::Set(key, parts) => {
@@ -95,7 +95,8 @@ fn calls_have_their_comparisons(rt: HostRuntime) -> Result<(), Fail> {
     Ok(())
 }
 
-/// Calls on timers with room for three keys, which come by due moment, slot and handle.
+/// Calls on timers with room for three keys, which come in the order of due moment, slot and
+/// handle.
 static ORDERED: [Does; 9] = [
     Does::Set(0, (5, 1, 1)),
     Does::Set(1, (5, 0, 2)),
@@ -132,7 +133,7 @@ fn keys_come_by_due_moment_slot_and_handle(rt: HostRuntime) -> Result<(), Fail> 
     Ok(())
 }
 
-// No memory is enough for so many keys.
+// No memory is enough for that many keys.
 #[test]
 fn refused_growth_changes_nothing(rt: HostRuntime) -> Result<(), Fail> {
     let mut timers = Timers::with_room(rt.alloc(), 2)?;

@@ -1,6 +1,6 @@
 -- What a publisher sends.
 -- For `publisher_keeps` and `publisher_sends_its_own`.
--- By cases on what asks for a telegram, and on leave to send.
+-- By cases on what asks for a telegram, and on whether the publisher may send.
 use Rattle.std.proofs.Common.{◌≡◌, ℕ, Some, None, Bool, true, false, refl, IsSome, List, Option}
 use Rattle.std.specs.Prelude.{◌==◌, ◌&&◌, ◌||◌, is_some}
 use Rattle.trdp_head.specs.declared.pd.PdHead.{PdHead}
@@ -47,7 +47,7 @@ sent-may_send p globals head is = either (may_send p globals) refl is
     either true may is = may
     either false may is = let h = rw may at is in absurd (cc)
 
--- leave to send needs a value
+-- a publisher that may send has a value
 is_some-may_send :
     (p : PublisherState) (globals : Globals) → may_send p globals ≡ true → IsSome p.value
 is_some-may_send p globals may =

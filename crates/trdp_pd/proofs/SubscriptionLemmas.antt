@@ -74,12 +74,12 @@ terms-taking s (PdIs src dst telegram) globals fits =
     either false is = rw is refl
 terms-taking s (MdIs src dst telegram) globals fits = refl
 
--- the subscription is as it was, or took the telegram
+-- the subscription is as it was, or accepted the telegram
 abbrev pub IsSameOrHasTaken :
     SubscriptionState → TelegramModel → Bool → SubscriptionState → Type 0
 IsSameOrHasTaken s telegram fits after = (after ≡ s) ⊎ HasTaken s telegram fits after
 
--- a telegram leaves the subscription as it was, or is taken
+-- a telegram leaves the subscription as it was, or is accepted
 pub HasTaken-taking :
     (s : SubscriptionState) (telegram : TelegramModel) (globals : Globals) (fits : Bool)
     → IsSameOrHasTaken s telegram fits (subscription_taking s telegram globals fits).object

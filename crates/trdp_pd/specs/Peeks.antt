@@ -10,7 +10,7 @@ pub record PeekModel : Type 0 where
   pub counter : ℕ
   pub bytes : List ℕ
 
--- a look at a subscription, apart from where its bytes lie
+-- a look at a subscription, apart from where its bytes are
 abbrev pub peek_model : Peek → PeekModel
 peek_model peek = record { state = peek.state; counter = peek.counter; bytes = peek.bytes.now }
 

@@ -23,15 +23,18 @@ pub record PublisherState : Type 0 where
   pub counter : ℕ
 
 -- a new publisher is first due one cycle later, has no value, and counts from 0
+-- rule: publisher.first
 abbrev pub published : PublisherTerms → ℕ → PublisherState
 published terms now = record { terms = terms; due = now + terms.cycle; value = None; counter = 0 }
 
 -- a publisher of cycle 0 is never due
+-- rule: publisher.idle
 abbrev pub publisher_due : PublisherState → Option ℕ
 publisher_due p = if p.terms.cycle == 0 then None else Some p.due
 
--- leave to send: it has a value, the node leads its group if it has one, and its topology counts
+-- may send: it has a value, the node leads its group if it has one, and its topology counters
 -- match the node's
+-- rule: publisher.send
 abbrev pub may_send : PublisherState → Globals → Bool
 may_send p globals =
     is_some p.value
@@ -40,6 +43,7 @@ may_send p globals =
 
 -- no catching up: the first of its moments after now, in whole cycles from the one that it was due
 -- at
+-- rule: publisher.cycle
 abbrev pub next_due : PublisherState → ℕ → ℕ
 next_due p now = p.due + ((now - p.due) / p.terms.cycle + 1) * p.terms.cycle
 
@@ -47,8 +51,9 @@ next_due p now = p.due + ((now - p.due) / p.terms.cycle + 1) * p.terms.cycle
 abbrev pub next_counter : ℕ → ℕ
 next_counter counter = (counter + 1) % 2 ^ 32
 
--- the header of the next telegram, as one of this type: the publisher's counter, comId and counts,
--- and no reply fields
+-- the header of the next telegram, as one of this type: the publisher's sequence counter, comId
+-- and topology counters, and no reply fields
+-- rule: publisher.head
 abbrev pub head_as : PdKind → PublisherState → PdHead
 head_as kind p = record {
   counter = p.counter;
@@ -69,6 +74,7 @@ reply_head p = head_as PullReply p
 
 -- cyclic sending: at most one telegram; the counter goes up by one modulo 2^32 exactly where one
 -- is sent
+-- rule: publisher.counter
 abbrev pub publisher_firing : PublisherState → Globals → Firing PublisherState
 publisher_firing p globals =
     if may_send p globals
@@ -84,18 +90,19 @@ asks_for_value PullRequest = true
 asks_for_value _ = false
 
 -- the comId that a pull request asks for: its replyComId, or its comId where that is 0
+-- rule: publisher.asked
 unfoldable pub asked_com_id : PdHead → ℕ
 asked_com_id head = if head.reply_com_id == 0 then head.com_id else head.reply_com_id
 
--- the telegram is a pull request that asks for the publisher's comId, with counts that match the
--- publisher's
+-- the telegram is a pull request that asks for the publisher's comId, with topology counters that
+-- match the publisher's
 unfoldable pub is_asked : PublisherState → PdHead → Bool
 is_asked p head =
     asks_for_value head.kind
     && asked_com_id head == p.terms.com_id
     && topo_valid head.topo p.terms.topo
 
--- what the telegrams for a publisher are; no message is for one
+-- which telegrams are for a publisher; no message is
 abbrev pub publisher_addressed : PublisherState → TelegramModel → Globals → Bool
 publisher_addressed p (PdIs src dst telegram) globals = is_asked p telegram.head
 publisher_addressed p (MdIs src dst telegram) globals = false
@@ -106,6 +113,7 @@ is_answered p head globals = is_asked p head && may_send p globals
 
 -- pull answer: one telegram out of the cycle, which is counted like those of the cycle and leaves
 -- the due moment
+-- rule: publisher.answer
 abbrev pub publisher_taking :
     PublisherState → TelegramModel → Globals → Bool → Reception PublisherState
 publisher_taking p (PdIs src dst telegram) globals fits =

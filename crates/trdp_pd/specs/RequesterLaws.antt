@@ -1,5 +1,5 @@
--- What is true of every requester: the proofs that it gives to the trait of all objects.
--- They stand here because what a trait's implementation names in src/ may stand in specs/ alone.
+-- What is true of every requester: its proofs for the trait of all objects. They are here because
+-- what a trait's implementation names in src/ may be in specs/ alone.
 use Rattle.std.specs.Prelude.{◌≡◌, Bool, false, refl}
 use Rattle.trdp_filter.specs.declared.globals.Globals.{Globals}
 use Rattle.trdp_filter.specs.Telegrams.{TelegramModel}

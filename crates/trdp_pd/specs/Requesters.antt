@@ -20,6 +20,7 @@ abbrev pub opened : RequesterTerms → RequesterState
 opened terms = record { terms = terms; counter = 0 }
 
 -- the header of the next pull request
+-- rule: requester.head
 abbrev pub pull_head : RequesterState → PdHead
 pull_head r = record {
   counter = r.counter;
@@ -36,6 +37,7 @@ pub record Pulling : Type 0 where
   pub head : PdHead
 
 -- pull: one pull request, and the counter goes up by one modulo 2^32
+-- rule: requester.pull
 abbrev pub pulling : RequesterState → Pulling
 pulling r = record { object = record r { counter = next_counter r.counter }; head = pull_head r }
 
@@ -47,7 +49,7 @@ requester_due r = None
 abbrev pub requester_addressed : RequesterState → TelegramModel → Globals → Bool
 requester_addressed r telegram globals = false
 
--- a requester takes no telegram
+-- a requester accepts no telegram
 abbrev pub requester_taking :
     RequesterState → TelegramModel → Globals → Bool → Reception RequesterState
 requester_taking r telegram globals fits = record { object = r; taken = NotTaken }

@@ -24,9 +24,9 @@ use Rattle.trdp_pd.specs.declared.object.Taken.TheVariants.{Nothing, Stored, Ali
 use Rattle.trdp_pd.specs.declared.object.Fired.TheVariants.{Silent}
 use Rattle.trdp_pd.specs.Effects.{Reception, Firing}
 
--- a subscription: its terms, the size of its dataset's zero value, its deadline if it has one, how
--- good its value is, the counter that it shows, the latest telegram that it took unless it timed
--- out since, and its value
+-- A subscription: its terms, the size of its dataset's zero value, its deadline if it has one, how
+-- good its value is, the counter that it shows, and its value. `latest` is of the latest telegram
+-- that it accepted; there is none after a time-out.
 pub record SubscriptionState : Type 0 where
   pub terms : SubscriptionTerms
   pub zero_size : ℕ
@@ -37,15 +37,17 @@ pub record SubscriptionState : Type 0 where
   pub value : List ℕ
 
 -- the deadline of a supervision time that begins now; one of 0 never runs out
+-- rule: subscription.supervision
 unfoldable pub deadline_from : ℕ → ℕ → Option ℕ
 deadline_from supervision now = if supervision == 0 then None else Some (now + supervision)
 
--- the length of the first value: that of the dataset's zero value, which is given, and 0 for
--- dataset 0, which has none
+-- the length of the first value: the number, that of the dataset's zero value, and 0 for dataset
+-- 0, which has none
 unfoldable pub first_size : SubscriptionTerms → ℕ → ℕ
 first_size terms zero_size = if terms.dataset == 0 then 0 else zero_size
 
 -- a new subscription shows the dataset's zero value and counter 0, and is supervised from now on
+-- rule: subscription.first
 abbrev pub subscribed : SubscriptionTerms → ℕ → ℕ → SubscriptionState
 subscribed terms zero_size now = record {
   terms = terms;
@@ -58,6 +60,7 @@ subscribed terms zero_size now = record {
 }
 
 -- the message types that carry a value
+-- rule: telegram.error
 abbrev pub carries_value : PdKind → Bool
 carries_value Data = true
 carries_value PullReply = true
@@ -68,7 +71,8 @@ abbrev pub stale_window : ℕ
 stale_window = 16
 
 -- stale: of the source address and message type of the latest accepted telegram, and its counter
--- less than the window behind that one's, modulo 2^32
+-- less than the window below that one's, modulo 2^32
+-- rule: subscription.stale
 unfoldable pub is_stale : Option Latest → Ip → PdHead → Bool
 is_stale None source head = false
 is_stale (Some latest) source head =
@@ -82,18 +86,20 @@ is_for_subscription s src dst head globals =
 
 -- acceptance: the telegram is for the subscription, its payload fits the dataset, and it isn't
 -- stale
+-- rule: subscription.accept
 unfoldable pub is_accepted_value : SubscriptionState → Place → Place → PdHead → Globals → Bool
     → Bool
 is_accepted_value s src dst head globals fits =
     is_for_subscription s src dst head globals && fits && not (is_stale s.latest src.ip head)
 
--- what the telegrams for a subscription are; no message is for one
+-- which telegrams are for a subscription; no message is
 abbrev pub subscription_addressed : SubscriptionState → TelegramModel → Globals → Bool
 subscription_addressed s (PdIs src dst telegram) globals =
     is_for_subscription s src dst telegram.head globals
 subscription_addressed s (MdIs src dst telegram) globals = false
 
--- an accepted telegram sets value, counter, memory and state, and the supervision time begins anew
+-- an accepted telegram sets value, counter, memory and state, and the supervision time restarts
+-- rule: subscription.restart
 abbrev pub storing : SubscriptionState → Place → PdTelegram → ℕ → SubscriptionState
 storing s src telegram now = record s {
   deadline = deadline_from s.terms.supervision now;
@@ -108,6 +114,7 @@ storing s src telegram now = record s {
 }
 
 -- a subscription that was silent is alive again
+-- rule: subscription.alive
 abbrev pub taken_in : ValueState → Taken
 taken_in SilentState = Alive
 taken_in _ = Stored
@@ -123,6 +130,7 @@ subscription_taking s (MdIs src dst telegram) globals fits = record { object = s
 
 -- the value after a time-out: kept, or the dataset's zero value, or for dataset 0 as many zeros as
 -- it had bytes
+-- rule: subscription.behaviour
 unfoldable pub value_after_time_out : SubscriptionTerms → ℕ → List ℕ → List ℕ
 value_after_time_out terms zero_size value = by_behaviour terms.behaviour
   where
@@ -132,6 +140,7 @@ value_after_time_out terms zero_size value = by_behaviour terms.behaviour
 
 -- supervision time-out: silent, with no deadline and no memory until the next accepted telegram;
 -- the counter stays
+-- rule: subscription.forget
 abbrev pub subscription_firing : SubscriptionState → Globals → Firing SubscriptionState
 subscription_firing s globals = record {
   object = record s {
@@ -148,8 +157,8 @@ abbrev pub IsOfValue : TelegramModel → Type 0
 IsOfValue (PdIs src dst telegram) = (telegram.head.kind ≡ Data) ⊎ (telegram.head.kind ≡ PullReply)
 IsOfValue (MdIs src dst telegram) = ⊥
 
--- the subscription took the telegram, data or a pull reply of its own comId whose payload fits its
--- dataset: its value is good and is the telegram's payload
+-- the subscription accepted the telegram, data or a pull reply of its own comId whose payload fits
+-- its dataset: its value is good and is the telegram's payload
 pub record HasTaken
     (s : SubscriptionState) (telegram : TelegramModel) (is_fit : Bool) (after : SubscriptionState)
     : Type 0 where

@@ -1,5 +1,5 @@
-//! What is true of every object of one kind, whatever came before, beside the laws of the trait
-//! [`Object`].
+//! What is true of every object of one kind, whatever came before, in addition to the laws of the
+//! trait [`Object`].
 
 ghost use Rattle.std.specs.Prelude.{◌≡◌, ℕ, ◌⊎◌, Bool, true, false, IsSome};
 ghost use Rattle.trdp_head.specs.declared.pd.PdHead.{PdHead};
@@ -54,7 +54,7 @@ pub fn publisher_sends_its_own()
         → (publisher_firing p globals).fired ≡ Fired.Data head → IsSome p.value }
 {}
 
-/// Neither a telegram nor a moment changes what a subscription takes.
+/// Neither a telegram nor a moment changes the terms of a subscription.
 pub fn subscription_keeps()
     ensures taken { (s : SubscriptionState) (telegram : TelegramModel) (globals : Globals)
         (fits : Bool) → (subscription_taking s telegram globals fits).object.terms ≡ s.terms }
@@ -62,10 +62,10 @@ pub fn subscription_keeps()
         → (subscription_firing s globals).object.terms ≡ s.terms }
 {}
 
-/// The value of a subscription is good only as the payload of a telegram that it took: of data or
-/// a pull reply, of its own comId, and fitting its dataset.
+/// The value of a subscription is good only as the payload of a telegram that it accepted: of data
+/// or a pull reply, of its own comId, and fitting its dataset.
 ///
-/// A new one is `Never`, a telegram leaves it as it was or is taken, and a time-out makes it
+/// A new one is `Never`, a telegram leaves it as it was or is accepted, and a time-out makes it
 /// `Silent`.
 pub fn subscription_shows_what_it_took()
     ensures new { (terms : SubscriptionTerms) (zero_size now : ℕ)

@@ -1,9 +1,9 @@
 //! The process data objects of a slot: publishers, subscriptions and requesters.
 //!
-//! A [`Publisher`] sends its value again and again, a [`Subscription`] takes the values of one
-//! comId, and a [`Requester`] asks for one. Each is an [`Object`]: `addressed` says which telegrams
-//! are for it, `take` what one does to it, `due` when it acts by itself, and `fire` what it does
-//! then.
+//! A [`Publisher`] sends its value in its cycle and as a pull reply, a [`Subscription`] receives
+//! the values of one comId, and a [`Requester`] sends pull requests. Each is an [`Object`]:
+//! `addressed` says which telegrams are for it, `take` hands it one, `due` says when it acts by
+//! itself, and `fire` lets it act.
 //!
 //! ```text
 //! let mut publisher = Publisher::new(alloc, &terms, now)?;
@@ -12,14 +12,14 @@
 //! publisher.fire(&globals)             // Fired::Data(head): to be sent with its value
 //! ```
 //!
-//! Each object is one state, and what a telegram or a moment does to it is a function of this
-//! state, the telegram and the node's globals alone. Headers and message types are those of
-//! IEC 61375-2-3:2015, Annex A; when an object sends, takes and times out is our own choice where
-//! the text says *profile*. The constructors take the memory of one payload; nothing later takes
-//! any.
+//! Headers and message types are those of IEC 61375-2-3:2015, Annex A; when an object sends,
+//! accepts and times out is our own choice where the text says *profile*. A new publisher or
+//! subscription allocates room for one payload; nothing later allocates. `trdp_model` joins these
+//! objects with those of message data.
 //!
-//! What no contract can say is that memory is there for a constructor, and that somebody calls
-//! `fire` when an object is due.
+//! Proved: each object is one state, and what a telegram or a moment does to it is a function of
+//! this state, the telegram and the node's globals alone. That the node calls `fire` when an
+//! object is due no contract here can say.
 #![tactic(auto)]
 
 mod laws;

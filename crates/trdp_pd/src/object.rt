@@ -15,26 +15,26 @@ use trdp_head::{MdHead, PdHead};
 pub enum Taken {
     /// Nothing: the object is as it was.
     Nothing,
-    /// It took the value.
+    /// It stored the value.
     Stored,
-    /// It took the value, and had been silent before.
+    /// It stored the value, and had been silent before.
     Alive,
-    /// It answers a pull request with its value under this header.
+    /// It answers a pull request with its value, with this header.
     Pulled(PdHead),
     /// It heard a message.
     Heard,
-    /// It took an answer to its request.
+    /// It accepted an answer to its request.
     Replied,
-    /// It took an answer to its request, and has all that it waits for.
+    /// It accepted an answer to its request, and has all that it waits for.
     RepliedLast,
-    /// It took the confirmation of its reply, with this status, and is over.
+    /// It accepted the confirmation of its reply, with this status, and is over.
     Confirmed(i32),
 }
 
 /// Why an open request or an open reply is over.
 #[derive(Clone, Copy, Debug, PartialEq, Eq)]
 pub enum Reason {
-    /// Each answer that was wanted came, and none awaits a confirmation.
+    /// Each expected answer came, and none awaits a confirmation.
     Done,
     /// No answer came in time.
     NoReply,
@@ -51,11 +51,11 @@ pub enum Reason {
 /// What an object does as it fires.
 #[derive(Clone, Copy, Debug, PartialEq, Eq)]
 pub enum Fired {
-    /// It sends nothing and tells nothing.
+    /// It sends nothing and reports nothing.
     Nothing,
-    /// It sends its value under this header.
+    /// It sends its value with this header.
     Data(PdHead),
-    /// It sends its request again under this header.
+    /// It sends its request again with this header.
     Again(MdHead),
     /// Its supervision time ran out.
     Silent,
@@ -67,11 +67,11 @@ pub enum Fired {
 pub trait Object {
     ghost use Rattle.trdp_pd.specs.declared.object.Taken.TheVariants.{Nothing as NotTaken};
 
-    /// When the object is to act next.
+    /// When the object is to act next, in microseconds since the node began; None for never.
     ghost due_of: { Self → Option ℕ };
 
-    /// What the laws below ask of an object: each object that a node holds is sound. Objects of a
-    /// kind whose laws ask nothing are always sound.
+    /// What the laws below require of an object: each object that a node holds is sound. Objects
+    /// of a kind whose laws require nothing are always sound.
     ghost is_sound: { Self → Bool };
 
     /// The telegram is for the object.
@@ -84,7 +84,7 @@ pub trait Object {
     /// The object once it fired, and what it did.
     ghost firing: { Self → Globals → Firing Self };
 
-    /// When it is to act next, in microseconds; None for never.
+    /// When it is to act next, in microseconds since the node began; None for never.
     fn due(&self) -> Option<u64>
         ensures { result ≡ due_of self.now };
 

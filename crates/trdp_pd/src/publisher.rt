@@ -15,9 +15,10 @@ use trdp_head::{PD_PAYLOAD_MAX, PdHead, PdKind};
 /// A publisher, with room for the longest value.
 #[derive(Drop)]
 pub struct Publisher {
-    /// What it is to send, to whom and how often; never changed.
+    /// What it is to send, where to and how often; never changed.
     terms: PublisherTerms,
-    /// When its cycle is next due, in microseconds; looked at for a cycle above 0 alone.
+    /// When its cycle is next due, in microseconds since the node began; without meaning for a
+    /// cycle of 0.
     due: u64,
     /// The bytes of its value, with room for the longest; empty before the first put.
     buffer: Vec<u8>,
@@ -93,7 +94,7 @@ impl Publisher {
         })
     }
 
-    /// Gives it a new value of at most 1432 bytes.
+    /// Sets its value, of at most 1432 bytes.
     pub fn put(&mut self, bytes: &[u8])
         requires { length bytes.now ≤ pd_payload_limit }
         ensures { self.new ≡ record self.old { value = Some bytes.now } }
@@ -136,8 +137,8 @@ impl Publisher {
         self.terms.to
     }
 
-    /// Whether it may send: it has a value, the node leads its group, and its topology counts
-    /// match the node's.
+    /// Whether it may send: it has a value, the node leads its group if it has one, and its
+    /// topology counters match the node's.
     fn may_send(&self, globals: &Globals) -> bool
         ensures { result ≡ may_send self.now globals.entry.now }
     {
@@ -147,7 +148,7 @@ impl Publisher {
             && topo_valid(self.terms.topo, globals.topo)
     }
 
-    /// Whether the telegram is a pull request for its comId, with topology counts that match its
+    /// Whether the telegram is a pull request for its comId, with topology counters that match its
     /// own.
     #[tactic(auto, unfolding(crate::specs::Publishers::is_asked))]
     fn is_asked(&self, head: &PdHead) -> bool
@@ -211,7 +212,7 @@ impl Object for Publisher {
 
     ghost kept_sound_by_firing = { λ _ _ sound. sound };
 
-    /// When it is next due, in microseconds; None for a cycle of 0.
+    /// When it is next due, in microseconds since the node began; None for a cycle of 0.
     fn due(&self) -> Option<u64> {
         if self.terms.cycle == 0 {
             None
@@ -220,7 +221,7 @@ impl Object for Publisher {
         }
     }
 
-    /// Pull requests that ask for its comId are for it, with topology counts that match its own.
+    /// Pull requests that ask for its comId are for it, with topology counters that match its own.
     fn addressed(&self, telegram: &Telegram<'_>, _globals: &Globals) -> bool {
         match *telegram {
             Telegram::Pd { view, .. } => self.is_asked(&view.head),

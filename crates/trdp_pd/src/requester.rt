@@ -12,7 +12,7 @@ use trdp_head::{PdHead, PdKind};
 /// A requester.
 #[derive(Drop)]
 pub struct Requester {
-    /// What it asks for, and whom; never changed.
+    /// What it asks for, and where; never changed.
     terms: RequesterTerms,
     /// The sequence counter that its next pull request carries.
     counter: u32,
@@ -63,7 +63,7 @@ impl Requester {
         self.terms.com_id
     }
 
-    /// The topology counts that its pull requests carry.
+    /// The topology counters that its pull requests carry.
     pub fn topo(&self) -> Topo
         ensures { result ≡ self.now.terms.topo }
     {
@@ -115,7 +115,7 @@ impl Object for Requester {
         false
     }
 
-    /// A requester takes no telegram.
+    /// A requester accepts no telegram.
     fn take(&mut self, _telegram: &Telegram<'_>, _globals: &Globals, _fits: bool) -> Taken {
         Taken::Nothing
     }

@@ -13,29 +13,29 @@ use trdp_base::Ip;
 use trdp_filter::{Globals, Telegram};
 use trdp_head::{PD_PAYLOAD_MAX, PdHead, PdKind};
 
-/// A telegram less than this many counters behind the latest one is stale (profile).
+/// A telegram whose counter is less than this much below the latest one's is stale (profile).
 const STALE_WINDOW: u32 = 16;
 
 /// A subscription, with room for the longest value.
 #[derive(Drop)]
 pub struct Subscription {
-    /// What it takes, and for how long a value is good; never changed.
+    /// Which telegrams it accepts, and for how long a value is good; never changed.
     terms: SubscriptionTerms,
     /// The length of its dataset's zero value in bytes, 0 to 1432; 0 for dataset 0, which has
     /// none; never changed.
     zero_size: usize,
-    /// When its value times out, in microseconds; None for a supervision time of 0, and from a
-    /// time-out to the next telegram that it takes.
+    /// When its value times out, in microseconds since the node began; None for a supervision time
+    /// of 0, and from a time-out to the next telegram that it accepts.
     deadline: Option<u64>,
     /// How good its value is.
     state: ValueState,
-    /// The sequence counter of the latest telegram that it took; 0 before the first.
+    /// The sequence counter of the latest telegram that it accepted; 0 before the first.
     counter: u32,
-    /// The latest telegram that it took, for comparison with the next one; None before the first,
-    /// and from a time-out to the next one that it takes.
+    /// The latest telegram that it accepted, for comparison with the next one; None before the
+    /// first, and from a time-out to the next one that it accepts.
     latest: Option<Latest>,
-    /// The bytes of its value, with room for the longest: of the latest telegram that it took, or
-    /// zeros.
+    /// The bytes of its value, with room for the longest: of the latest telegram that it accepted,
+    /// or zeros.
     value: Vec<u8>,
 }
 
@@ -60,8 +60,8 @@ impl Model for Subscription {
         × (pd_payload_limit ≤ vec_capacity s.value) };
 }
 
-/// The length of a new subscription's value in bytes: that of its dataset's zero value, which is
-/// given, and 0 for dataset 0, whatever is given.
+/// The length of a new subscription's value in bytes: `zero_size`, that of its dataset's zero
+/// value, and 0 for dataset 0.
 #[tactic(auto, unfolding(crate::specs::Subscriptions::first_size))]
 fn first_size(terms: &SubscriptionTerms, zero_size: usize) -> usize
     requires { zero_size ≤ pd_payload_limit }
@@ -84,7 +84,7 @@ fn deadline_from(supervision: u32, now: u64) -> Option<u64>
     }
 }
 
-/// Whether a telegram is stale against the latest one that was taken.
+/// Whether a telegram is stale against the latest one that was accepted.
 #[tactic(auto, unfolding(crate::specs::Subscriptions::is_stale))]
 fn is_stale(latest: Option<Latest>, source: Ip, head: &PdHead) -> bool
     ensures { result ≡ is_stale latest source head.now }
@@ -109,7 +109,7 @@ impl Subscription {
     /// microseconds (profile).
     ///
     /// `zero_size` is the number of bytes of that zero value; for dataset 0, whose values are any
-    /// bytes, it counts for nothing and the value is empty.
+    /// bytes, it has no effect and the value is empty.
     ///
     /// # Errors
     /// [`AllocError`] where there is no memory for the longest value.
@@ -137,7 +137,7 @@ impl Subscription {
         })
     }
 
-    /// The comId that it takes.
+    /// The comId that it receives.
     pub fn com_id(&self) -> u32
         ensures { result ≡ self.now.terms.filter.com_id }
     {
@@ -213,7 +213,7 @@ impl Object for Subscription {
 
     ghost kept_sound_by_firing = { λ _ _ sound. sound };
 
-    /// Its deadline, in microseconds; None where no supervision time runs.
+    /// Its deadline, in microseconds since the node began; None where no supervision time runs.
     fn due(&self) -> Option<u64> {
         self.deadline
     }

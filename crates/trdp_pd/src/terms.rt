@@ -4,7 +4,7 @@ use trdp_base::{Ip, Place, Topo};
 use trdp_filter::PdFilter;
 use trdp_head::PdKind;
 
-/// What a publisher is to send, to whom and how often.
+/// What a publisher is to send, where to and how often.
 #[derive(Clone, Copy, Debug, PartialEq, Eq)]
 pub struct PublisherTerms {
     /// The comId of IEC 61375-2-3 that the telegrams carry.
@@ -17,13 +17,13 @@ pub struct PublisherTerms {
     /// The redundancy group, 1 to 255, which the node must lead for the publisher to send; 0 for
     /// none (profile).
     pub group: u8,
-    /// The topology counts that the telegrams carry.
+    /// The topology counters that the telegrams carry.
     pub topo: Topo,
     /// Where the telegrams go.
     pub to: Place,
 }
 
-/// What a requester asks for, and whom.
+/// What a requester asks for, and where.
 #[derive(Clone, Copy, Debug, PartialEq, Eq)]
 pub struct RequesterTerms {
     /// The comId of IEC 61375-2-3 that the pull requests carry.
@@ -32,7 +32,7 @@ pub struct RequesterTerms {
     pub reply_com_id: u32,
     /// Where the replies are to be sent; 0 for the requester's own node.
     pub reply_ip: Ip,
-    /// The topology counts that the pull requests carry.
+    /// The topology counters that the pull requests carry.
     pub topo: Topo,
     /// Where the pull requests go.
     pub to: Place,
@@ -47,10 +47,10 @@ pub enum Behaviour {
     Keep,
 }
 
-/// What a subscription takes, and for how long a value is good.
+/// Which telegrams a subscription accepts, and for how long a value is good.
 #[derive(Clone, Copy, Debug, PartialEq, Eq)]
 pub struct SubscriptionTerms {
-    /// Which telegrams it takes.
+    /// Which telegrams are for it.
     pub filter: PdFilter,
     /// The dataset that each value is one of; 0 for any bytes.
     pub dataset: u32,
@@ -72,7 +72,7 @@ pub enum ValueState {
     Silent,
 }
 
-/// The latest telegram that a subscription took, as far as the next one is compared with it.
+/// Of the latest telegram that a subscription accepted, what the next one is compared with.
 #[derive(Clone, Copy)]
 pub struct Latest {
     /// Its source address.
@@ -88,7 +88,7 @@ pub struct Latest {
 pub struct Peek<'a> {
     /// How good the value is.
     pub state: ValueState,
-    /// The sequence counter of the latest telegram that was taken; 0 before the first.
+    /// The sequence counter of the latest telegram that was accepted; 0 before the first.
     pub counter: u32,
     /// The value, at most 1432 bytes.
     pub bytes: &'a [u8],

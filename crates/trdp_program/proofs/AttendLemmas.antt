@@ -1,4 +1,4 @@
--- The lines of totals that a service writes which goes on.
+-- The lines of totals that a daemon writes.
 -- For `attend_over` and `attend_lines`.
 -- By a loop's invariant: the turns so far are those up to the latest line.
 use Rattle.std.proofs.Common.{◌≡◌, ◌+◌, ◌-◌, ◌^◌, ◌==◌, min, ℕ, suc, Bool, not, false, List, []}
@@ -41,7 +41,7 @@ written_more (one ∷ before) bytes count =
     ap (λ l. take one.count one.bytes ++ l) (written_more before bytes count)
     ∙ sym (append_assoc (take one.count one.bytes) (written_by before) (take count bytes))
 
--- whether a line is cut behind some bytes and some more
+-- whether a line is cut after some bytes and some more
 cut_both : (before : Bool) (bytes more : List ℕ)
     → is_cut_behind before (bytes ++ more) ≡ is_cut_behind (is_cut_behind before bytes) more
 cut_both before [] more = refl
@@ -181,7 +181,7 @@ lines_more {step = step} {n = n} {is_cut = is_cut} {is_cut_then} {bytes} {a} {b}
           ∙ cut_both false (written_by p.attempts) (take count bytes));
     }
 
--- a line for which memory was wanting
+-- a line for which an allocation failed
 pub lines_fail : {W C : Type 0} {takings_in : W → Option (List Taking)}
     {gives_in : W → Option (List Give)} {readings_in : C → Option (List ℕ)}
     {config : ConfigModel} {lease : Option ℕ} {wire : W} {clock : C} {step n due reading : ℕ}

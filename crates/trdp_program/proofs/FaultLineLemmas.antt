@@ -78,7 +78,7 @@ told_whole (Some text) start line made r old new bytes empty intact good wrote i
     (line_bytes text start line made bytes empty intact good wrote is)
     (when_ok r written whole)
 
--- a line that was told whole, and more behind it
+-- a line that was written whole, and more after it
 pub first_whole : (text : List ℕ) (a b c : Option (List ℕ)) → Appends a b (text ++ codes "\n")
     → TellsText b c → TellsFaultFirst text a c
 first_whole text a b c line more =
@@ -92,7 +92,7 @@ first_whole text a b c line more =
       ),
     )
 
--- a line that was told in part, and nothing behind it
+-- a line that was written in part, and nothing after it
 pub first_front : (text : List ℕ) (a b : Option (List ℕ)) → TellsFault text a b
     → TellsFaultFirst text a b
 first_front text a b front = (

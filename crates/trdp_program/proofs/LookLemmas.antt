@@ -42,7 +42,7 @@ early_later until due (turn ∷ turns) within early =
     (lt-leb due turn.reading before)
     ∙ early_later until due turns within both.1
 
--- early turns behind early turns
+-- early turns after early turns
 early_both : (due : ℕ) (turns more : List Turn) → AreEarly due turns → AreEarly due more
     → AreEarly due (turns ++ more)
 early_both due turns more p q =
@@ -76,7 +76,7 @@ behind_early due reading [] (turn ∷ next ∷ more) early some =
     (list_any (nat_le due) (map (λ turn. turn.reading) (next ∷ more))) early).1
     (omega arith)
 
--- all turns of so many pieces, of which none was the last
+-- all turns of that many pieces, of which none was the last
 pub record LooksSoFar {W C : Type 0} (takings_in : W → Option (List Taking))
     (gives_in : W → Option (List Give)) (readings_in : C → Option (List ℕ))
     (config : ConfigModel) (lease : Option ℕ) (wire : W) (clock : C) (turns : List Turn)

@@ -1,6 +1,6 @@
--- What the turns of a service come to.
+-- The totals of a service's turns.
 -- For `serve`, `serve_controls` and `serve_at`.
--- By cases: a fault before the first turn, or the totals of so many turns.
+-- By cases: a fault before the first turn, or the totals of that many turns.
 use Rattle.std.proofs.Common.{◌≡◌, ℕ, List, Option, refl, sym, ◌∙◌, subst}
 use Rattle.std.proofs.KnownBytes.{Keeps-refl}
 use Rattle.trdp_dataset.specs.Configs.{ConfigModel}
@@ -10,7 +10,7 @@ use Rattle.trdp_program.specs.declared.faults.ServeFault.{ServeFault}
 use Rattle.trdp_program.specs.declared.faults.ServeFault.TheVariants.{Bind, Write, OutOfMemory}
 use Rattle.trdp_program.specs.Serving.{CountsTurns, CountsTurnsOver, FailsToWrite, WritesNoTotals}
 
--- totals of turns over a wire and a clock are those of so many turns
+-- totals of turns over a wire and a clock are those of that many turns
 pub counts_turns : {W C : Type 0} {takings_in : W → Option (List Taking)}
     {gives_in : W → Option (List Give)} {readings_in : C → Option (List ℕ)}
     {config : ConfigModel} {lease : Option ℕ} {wire : W} {clock : C} {n : ℕ} {totals : Totals}
@@ -36,7 +36,7 @@ early_fault Bind config lease n told early = Keeps-refl told
 early_fault OutOfMemory config lease n told early = Keeps-refl told
 early_fault Write config lease n told early = absurd (early refl)
 
--- no memory for the daemon
+-- an allocation for the daemon fails
 pub memory_fault : (fault : ServeFault) (config : ConfigModel) (lease : Option ℕ) (n : ℕ)
     (told : Option (List ℕ))
     → fault ≡ OutOfMemory → WritesNoTotals fault config lease n told told

@@ -1,4 +1,4 @@
--- What it comes to when the program serves a node that goes on.
+-- What the program does when it serves a node until it is stopped.
 use Rattle.std.specs.Prelude.{◌≡◌, ◌⊎◌, ℕ, ◌+◌, ◌*◌, ◌-◌, ◌^◌, ◌≤◌, ◌==◌, min, if◌then◌else◌}
 use Rattle.std.specs.Prelude.{Bool, false, List, [], ◌∷◌, ◌++◌, codes, length, Option, Ok}
 use Rattle.trdp_dataset.specs.Configs.{ConfigModel, ReadsToml, config_of}
@@ -15,8 +15,8 @@ use Rattle.trdp_program.specs.Streams.{Attempt, attempt, written_by, is_cut_behi
 use Rattle.trdp_program.specs.declared.faults.ServeFault.{ServeFault}
 use Rattle.trdp_program.specs.declared.faults.ServeFault.TheVariants.{Bind, Write, OutOfMemory}
 
--- the microseconds from one line of totals to the next, of so many seconds; with 0 it is as long as
--- a clock of 64 bits goes
+-- the microseconds from one line of totals to the next, for that many seconds; with 0 it is as
+-- long as a clock of 64 bits goes
 unfoldable pub step_of : ℕ → ℕ
 step_of seconds = if seconds == 0 then 2 ^ 64 - 1 else seconds * 1000000
 
@@ -26,7 +26,7 @@ pub record TotalsLine : Type 0 where
   pub gives : List Give
   pub totals : Totals
 
--- the turns up to the latest of these lines, which stands first
+-- the turns up to the latest of these lines, which comes first
 abbrev pub turns_of : List TotalsLine → List Turn
 turns_of [] = []
 turns_of (line ∷ earlier) = line.turns
@@ -40,7 +40,7 @@ gives_of (line ∷ earlier) = line.gives
 abbrev pub text_of_line : Totals → List ℕ
 text_of_line totals = text_of_totals totals ++ codes "\n"
 
--- the reading of the clock at which a line is due behind these turns: a step behind the last one
+-- the reading of the clock at which a line is due after these turns: a step after the last one
 abbrev pub line_due : ℕ → List Turn → ℕ
 line_due step turns = min (last_reading turns + step) (2 ^ 64 - 1)
 
@@ -68,8 +68,8 @@ pub record ServesUntilDue {W C : Type 0} (takings_in : W → Option (List Taking
   pub ends : EndsWhenDue due more
   pub reading_is : reading ≡ last_reading served.turns
 
--- a line of a node of that configuration and lease, behind these turns and their gives: it comes
--- with the first turn that begins a step or more behind the last of these
+-- a line of a node of that configuration and lease, after these turns and their gives: it comes
+-- with the first turn that begins a step or more after the last of these
 pub record IsNextLine (config : ConfigModel) (lease : Option ℕ) (step : ℕ) (turns : List Turn)
     (gives : List Give)
     (line : TotalsLine) : Type 0 where
@@ -94,8 +94,8 @@ abbrev pub bytes_of_line : List Attempt → TotalsLine → List ℕ
 bytes_of_line before line =
     line_end (is_cut_behind false (written_by before)) ++ text_of_line line.totals
 
--- a stream was asked to take each of these lines once, in their order, of which the latest stands
--- first; and nothing else. A line that it didn't take is left out
+-- a stream was asked to take each of these lines once, in their order, the latest being the first
+-- in this list; and nothing else. A line that it didn't take is left out
 abbrev pub AttemptsLines : List TotalsLine → List Attempt → Type 0
 AttemptsLines [] attempts = attempts ≡ []
 AttemptsLines (line ∷ earlier) attempts =
@@ -119,7 +119,7 @@ pub record WritesAllLines (config : ConfigModel) (lease : Option ℕ) (step : �
   pub all : WritesLines config lease step old new
   pub count : length all.lines ≡ 2 ^ 64 - 1
 
--- what a service has written that ends with this fault
+-- what a service that ends with this fault has written
 abbrev pub WritesUpTo : ServeFault → ConfigModel → Option ℕ → ℕ → Option (List Attempt)
     → Option (List Attempt) → Type 0
 WritesUpTo Bind config lease step old new = TellsMore old new []
@@ -127,8 +127,8 @@ WritesUpTo Write config lease step old new = ⊥
 WritesUpTo OutOfMemory config lease step old new = WritesLines config lease step old new
 
 -- a daemon of this configuration and lease has served since it was made with this wire and this
--- clock, which tell what they do by these functions: its turns are those up to the latest of these
--- lines
+-- clock, which report what they do by these functions: its turns are those up to the latest of
+-- these lines
 pub record HasServedLines {W C : Type 0} (takings_in : W → Option (List Taking))
     (gives_in : W → Option (List Give)) (readings_in : C → Option (List ℕ))
     (config : ConfigModel) (lease : Option ℕ) (wire : W) (clock : C) (step : ℕ)
@@ -157,7 +157,7 @@ pub record WritesLinesOver {W C : Type 0} (takings_in : W → Option (List Takin
   pub due_is : due ≡ line_due step (turns_of lines)
   pub is_cut_is : is_cut ≡ is_cut_behind false (written_by attempts)
 
--- such a daemon has served up to a line for which memory was wanting: a stream was asked to take
+-- such a daemon has served up to a line for which an allocation failed: a stream was asked to take
 -- those before it
 pub record FailsOver {W C : Type 0} (takings_in : W → Option (List Taking))
     (gives_in : W → Option (List Give)) (readings_in : C → Option (List ℕ))
@@ -173,8 +173,8 @@ pub record FailsOver {W C : Type 0} (takings_in : W → Option (List Taking))
   pub are_attempts : AttemptsLines earlier attempts
   pub told : TellsMore old new attempts
 
--- as many lines were offered as can be counted: the status is 0, and the error stream is told of
--- what was lost
+-- as many lines were offered as can be counted: the status is 0, and the error stream gets what
+-- was lost
 pub record AttendsToEnd (config : ConfigModel) (lease : Option ℕ) (step : ℕ)
     (old new : Option (List Attempt))
     (errors errors_then : Option (List ℕ)) (status : ℕ) : Type 0 where
@@ -182,7 +182,7 @@ pub record AttendsToEnd (config : ConfigModel) (lease : Option ℕ) (step : ℕ)
   pub written : WritesAllLines config lease step old new
   pub losses : TellsText errors errors_then
 
--- the service came to a fault: the status is 4, and the error stream is told of what was lost, and
+-- the service ended with a fault: the status is 4, and the error stream gets what was lost, and
 -- then the fault
 pub record FailsToAttend (config : ConfigModel) (lease : Option ℕ) (step : ℕ)
     (old new : Option (List Attempt))
@@ -194,7 +194,7 @@ pub record FailsToAttend (config : ConfigModel) (lease : Option ℕ) (step : ℕ
   pub losses : TellsText errors before
   pub told : TellsFault (text_of_serve_fault fault) before errors_then
 
--- a service of a node that goes on, with this lease: what the writer was asked to take and what the
+-- a daemon's service of a node, with this lease: what the writer was asked to take and what the
 -- error stream had before and after it, and the status
 abbrev pub Attends : ConfigModel → Option ℕ → ℕ → Option (List Attempt) → Option (List Attempt)
     → Option (List ℕ) → Option (List ℕ) → ℕ → Type 0
@@ -202,8 +202,8 @@ Attends config lease step old new errors errors_then status =
     AttendsToEnd config lease step old new errors errors_then status
     ⊎ FailsToAttend config lease step old new errors errors_then status
 
--- the bytes are a configuration, whose node was served; the error stream was told some text before
--- that and some behind it
+-- the bytes are a configuration, whose node was served; the error stream gets some text before
+-- that and some after it
 pub record AttendsConfig (bytes : List ℕ) (lease : Option ℕ) (step : ℕ)
     (old new : Option (List Attempt))
     (errors errors_then : Option (List ℕ)) (status : ℕ) : Type 0 where
@@ -215,7 +215,7 @@ pub record AttendsConfig (bytes : List ℕ) (lease : Option ℕ) (step : ℕ)
   pub attends : Attends config lease step old new before behind status
   pub more : TellsText behind errors_then
 
--- a service that goes on over these bytes of a configuration, with this lease: what the writer was
+-- a daemon's service over these bytes of a configuration, with this lease: what the writer was
 -- asked to take and what the error stream had before and after it, and the status. Where the bytes
 -- are none, the writer was asked for nothing
 abbrev pub AttendsProgram : List ℕ → Option ℕ → ℕ → Option (List Attempt) → Option (List Attempt)

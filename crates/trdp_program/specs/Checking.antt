@@ -1,4 +1,4 @@
--- What a check of a configuration comes to.
+-- What a check of a configuration does.
 use Rattle.std.specs.Prelude.{◌≡◌, ◌≢◌, ◌⊎◌, ℕ, List, Option, Ok}
 use Rattle.std.specs.Io.KnownBytes.{Keeps}
 use Rattle.trdp_dataset.specs.Configs.{ConfigModel, ReadsToml, config_of}
@@ -9,8 +9,8 @@ use Rattle.trdp_program.specs.Programs.{IsConfigFault}
 use Rattle.trdp_program.specs.declared.faults.ServeFault.{ServeFault}
 use Rattle.trdp_program.specs.declared.faults.ServeFault.TheVariants.{Bind}
 
--- the bytes are no configuration, or memory ran out while they were read: the status is 1, and the
--- first line that the error stream is told is the fault's
+-- the bytes are no configuration, or an allocation failed while they were read: the status is 1,
+-- and the first line that the error stream gets is the fault's
 pub record RefusesConfig (bytes : List ℕ) (errors errors_then : Option (List ℕ)) (status : ℕ)
     : Type 0 where
   pub fault : ConfigFault
@@ -18,8 +18,8 @@ pub record RefusesConfig (bytes : List ℕ) (errors errors_then : Option (List �
   pub status_is : status ≡ 1
   pub told : TellsFaultFirst (text_of_config_fault fault) errors errors_then
 
--- the bytes are a configuration: the status is 0, some text was written, and the error stream is
--- told nothing
+-- the bytes are a configuration: the status is 0, some text was written, and the error stream gets
+-- nothing
 pub record ReportsConfig (bytes : List ℕ) (old new errors errors_then : Option (List ℕ))
     (status : ℕ) : Type 0 where
   pub config : ConfigModel
@@ -29,7 +29,7 @@ pub record ReportsConfig (bytes : List ℕ) (old new errors errors_then : Option
   pub faultless : Keeps errors errors_then
 
 -- the bytes are a configuration, but the text wasn't written, or only a front of it: the status is
--- 4, and the error stream is told the fault
+-- 4, and the error stream gets the fault
 pub record FailsToReport (bytes : List ℕ) (old new errors errors_then : Option (List ℕ))
     (status : ℕ) : Type 0 where
   pub config : ConfigModel

@@ -23,7 +23,7 @@ name_of_config_fault TooBig = codes "TooBig"
 name_of_config_fault TooMany = codes "TooMany"
 name_of_config_fault OutOfMemory = codes "OutOfMemory"
 
--- what stands behind the name, a space before it: the key, or the identifier of the dataset that
+-- what follows the name, with a space before it: the key, or the identifier of the dataset that
 -- isn't there
 abbrev pub detail_of_config_fault : ConfigFault → List ℕ
 detail_of_config_fault (Missing key) = codes " " ++ key_text key
@@ -32,6 +32,7 @@ detail_of_config_fault (NoDataset id) = codes " " ++ text_of_number id
 detail_of_config_fault _ = []
 
 -- the line of a fault of the configuration, without its end
+-- rule: run.config
 abbrev pub text_of_config_fault : ConfigFault → List ℕ
 text_of_config_fault fault =
     codes "config fault " ++ name_of_config_fault fault ++ detail_of_config_fault fault

@@ -1,4 +1,4 @@
--- What a run of the program comes to.
+-- What a run of the program does.
 use Rattle.std.specs.Prelude.{◌≡◌, ◌⊎◌, ℕ, List, Option, Some, Result, Ok, Err}
 use Rattle.std.specs.Io.KnownBytes.{Keeps}
 use Rattle.trdp_dataset.specs.Configs.{ConfigModel, ReadsToml, config_of}
@@ -12,13 +12,13 @@ use Rattle.trdp_program.specs.Faults.{TellsEnd, TellsFault, status_of_script}
 abbrev pub IsConfig : List ℕ → Type 0
 IsConfig bytes = (config : ConfigModel) × ReadsToml config_of bytes (Ok config)
 
--- the fault is the one that the bytes have as a configuration, or memory ran out while they were
--- read
+-- the fault is the one that the bytes have as a configuration, or an allocation failed while they
+-- were read
 abbrev pub IsConfigFault : List ℕ → ConfigFault → Type 0
 IsConfigFault bytes fault = ReadsToml {A = ConfigModel} config_of bytes (Err fault)
 
--- the bytes are no configuration, or memory ran out while they were read: the status is 1, nothing
--- was written, and the error stream is told the fault
+-- the bytes are no configuration, or an allocation failed while they were read: the status is 1,
+-- nothing was written, and the error stream gets the fault
 pub record TakesNoConfig (bytes : List ℕ) (old new errors errors_then : Option (List ℕ))
     (status : ℕ) : Type 0 where
   pub fault : ConfigFault
@@ -27,8 +27,8 @@ pub record TakesNoConfig (bytes : List ℕ) (old new errors errors_then : Option
   pub quiet : Keeps old new
   pub told : TellsFault (text_of_config_fault fault) errors errors_then
 
--- the bytes are a configuration, over which the script was run, where the reader tells its bytes;
--- the status is that of the script, and the error stream is told its fault
+-- the bytes are a configuration, over which the script was run, where the reader reports its
+-- bytes; the status is that of the script, and the error stream gets its fault
 pub record RunsOverConfig (bytes : List ℕ)
     (unread left old new errors errors_then : Option (List ℕ)) (status : ℕ) : Type 0 where
   pub config : ConfigModel

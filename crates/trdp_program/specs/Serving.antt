@@ -1,4 +1,4 @@
--- What it comes to when the program serves a node.
+-- What the program does when it serves a node for a number of turns.
 use Rattle.std.specs.Prelude.{◌≡◌, ◌⊎◌, ℕ, ◌*◌, List, ◌++◌, codes, length, map, Option, Ok}
 use Rattle.std.specs.Option.{option_map}
 use Rattle.std.specs.List.{flat_map}
@@ -18,14 +18,14 @@ use Rattle.trdp_program.specs.Programs.{TakesNoConfig}
 use Rattle.trdp_program.specs.declared.faults.ServeFault.{ServeFault}
 use Rattle.trdp_program.specs.declared.faults.ServeFault.TheVariants.{Bind, Write, OutOfMemory}
 
--- a lease of so many seconds in microseconds
+-- a lease, given in seconds, in microseconds
 abbrev pub lease_of : Option ℕ → Option ℕ
 lease_of = option_map (λ seconds. seconds * 1000000)
 
--- these are the totals of a node of that configuration and lease after these turns, its first, with
--- these gives: each turn took once at each port that is there, in order, and the gives are exactly
--- what the turns offer, whatever they answered; each answer to the operator that tells of totals
--- tells of those of its take
+-- these are the totals of a node of that configuration and lease after these turns, its first,
+-- with these gives. Each turn took once at each port that is there, in order, and the gives are
+-- exactly what the turns offer, whatever they answered. Each answer to the operator about totals
+-- has those of its take
 pub record AreTotals (config : ConfigModel) (lease : Option ℕ) (turns : List Turn)
     (gives : List Give)
     (totals : Totals) : Type 0 where
@@ -44,8 +44,8 @@ pub record CountsTurns (config : ConfigModel) (lease : Option ℕ) (n : ℕ) (to
   pub count : length turns ≡ n
   pub are : AreTotals config lease turns gives totals
 
--- these are the totals of a daemon of that configuration and lease that has just been made, after n
--- turns over this wire and this clock, which tell what they do by these functions
+-- these are the totals of a daemon of that configuration and lease that has just been made, after
+-- n turns over this wire and this clock, which report what they do by these functions
 pub record CountsTurnsOver {W C : Type 0} (takings_in : W → Option (List Taking))
     (gives_in : W → Option (List Give)) (readings_in : C → Option (List ℕ))
     (config : ConfigModel) (lease : Option ℕ) (wire : W) (clock : C) (n : ℕ) (totals : Totals)
@@ -66,7 +66,7 @@ FailsToWrite OutOfMemory totals old new = Keeps old new
 FailsToWrite Write totals old new = PartlyWrites old new (text_of_totals totals ++ codes "\n")
 
 -- the bytes are a configuration, whose node took n turns: the status is 0, the line of its totals
--- was written, and the error stream is told nothing
+-- was written, and the error stream gets nothing
 pub record ServesConfig (bytes : List ℕ) (lease : Option ℕ) (n : ℕ)
     (old new errors errors_then : Option (List ℕ))
     (status : ℕ) : Type 0 where
@@ -78,7 +78,7 @@ pub record ServesConfig (bytes : List ℕ) (lease : Option ℕ) (n : ℕ)
   pub written : WritesTotals totals old new
   pub faultless : Keeps errors errors_then
 
--- what a service has written that ends with this fault: where the output can't be written a front
+-- what a service that ends with this fault has written: where the output can't be written a front
 -- of the line of the totals of n turns, and else nothing
 abbrev pub WritesNoTotals : ServeFault → ConfigModel → Option ℕ → ℕ → Option (List ℕ)
     → Option (List ℕ) → Type 0
@@ -88,7 +88,7 @@ WritesNoTotals Write config lease n old new = (totals : Totals) × CountsTurns c
     × PartlyWrites old new (text_of_totals totals ++ codes "\n")
 
 -- the bytes are a configuration, but the line of its node's totals wasn't written, or only a front
--- of it: the status is 4, and the error stream is told the fault
+-- of it: the status is 4, and the error stream gets the fault
 pub record FailsToServe (bytes : List ℕ) (lease : Option ℕ) (n : ℕ)
     (old new errors errors_then : Option (List ℕ))
     (status : ℕ) : Type 0 where

@@ -14,7 +14,7 @@ abbrev pub written_by : List Attempt → List ℕ
 written_by [] = []
 written_by (one ∷ more) = take one.count one.bytes ++ written_by more
 
--- whether a line is cut behind these bytes, of which the last isn't its end; as before where there
+-- whether a line is cut after these bytes, of which the last isn't its end; as before where there
 -- are none
 abbrev pub is_cut_behind : Bool → List ℕ → Bool
 is_cut_behind before [] = before

@@ -1,4 +1,4 @@
-//! A service that goes on: first the sockets, and then turns with rests between them.
+//! The daemon: first the sockets, and then turns with rests between them.
 
 ghost use Rattle.std.specs.Prelude.{◌≡◌, ◌^◌, ◌-◌, OnOk, IfErr, Bool, ℕ, Option};
 ghost use Rattle.trdp_dataset.specs.Configs.{ConfigModel};
@@ -23,7 +23,7 @@ use std::time::Clock;
 use trdp_daemon::{Daemon, RunClock, Wire};
 use trdp_dataset::NodeConfig;
 
-/// Serves a node of a configuration until the program is stopped, and answers the exit status: 4
+/// Serves a node of a configuration until the program is stopped, and returns the exit status: 4
 /// after a fault, which gives one line on `errors`, and 0 after 2^64 - 1 lines of totals.
 pub(crate) fn attend_config<H: Files + Net + Clock + AllocGlobal, W: Stream, E: Write>(
     rt: &H,
@@ -79,8 +79,8 @@ fn attend<H: Files + Net + Clock + AllocGlobal, W: Stream, E: Write>(
     }
 }
 
-/// Opens a node of a configuration over a wire and a clock, with a lease, and attends to it: a line
-/// of its totals comes after each step of so many microseconds.
+/// Opens a node of a configuration over a wire and a clock, with a lease, and attends to it: a
+/// line of its totals comes after each step, in microseconds.
 ///
 /// # Errors
 /// `OutOfMemory`.
@@ -106,12 +106,12 @@ fn attend_over<L: Wire + Drop, C: trdp_daemon::Clock + Drop, W: Stream, E: Write
     }
 }
 
-/// Attends to a node that has taken no turn, and offers the writer the line of its totals with the
-/// first turn that begins a step of so many microseconds behind that of the line before, or behind
-/// 0, until so many lines were offered. A line that the writer doesn't take is left out.
+/// Attends to a node that has taken no turn, until `lines` lines of totals were offered to the
+/// writer. Each comes with the first turn that begins a step, in microseconds, after that of the
+/// line before, or after 0. A line that the writer doesn't take is left out.
 ///
 /// # Errors
-/// `OutOfMemory`, where there is none for a line.
+/// `OutOfMemory`, where an allocation for a line fails.
 pub fn attend_lines<L: Wire, C: trdp_daemon::Clock, W: Stream, E: Write>(
     alloc: Global,
     daemon: &mut Daemon<L, C>,
@@ -140,8 +140,8 @@ pub fn attend_lines<L: Wire, C: trdp_daemon::Clock, W: Stream, E: Write>(
     Ok(())
 }
 
-/// Attends to a node until a turn begins at the reading `due` of the clock or later, and looks each
-/// second at what was lost. Answers the reading of the last turn.
+/// Attends to a node until a turn begins at the reading `due` of the clock or later, and looks
+/// each second at what was lost. Returns the reading of the last turn.
 fn attend_until<L: Wire, C: trdp_daemon::Clock, E: Write>(
     daemon: &mut Daemon<L, C>,
     due: u64,

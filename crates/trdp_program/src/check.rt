@@ -15,10 +15,10 @@ use trdp_dataset::NodeConfig;
 use trdp_report::report;
 use trdp_script::write_whole;
 
-/// Says what a configuration (TOML) means and what its author may not have meant, on the writer,
-/// and answers the exit status: 0, or 1 where it isn't taken, with its fault on `errors` and behind
-/// it each fault of the file, or 4 where the writer fails or memory is wanting, with a line on
-/// `errors` (profile). The ports for lines are files of a folder, if there is one.
+/// Says on the writer what a configuration (TOML) means and what its author may not have meant,
+/// and returns the exit status (profile). It is 0; 1 where the configuration is rejected, with its
+/// fault on `errors`, and after that each fault of the file; 4 where the writer or an allocation
+/// fails, with a line on `errors`. The ports for lines are files of a folder, if there is one.
 pub fn check_program<W: Write, E: Write>(
     alloc: Global,
     config: &[u8],

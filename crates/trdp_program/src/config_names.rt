@@ -27,8 +27,8 @@ fn config_fault_name(fault: ConfigFault) -> &'static str
 }
 
 /// A fault of the configuration as the program prints it (profile): `config fault NAME`, and after
-/// one space the key of a Missing or WrongType and the dataset of a NoDataset. To show it takes no
-/// memory.
+/// one space the key of a Missing or WrongType and the dataset of a NoDataset. Printing it
+/// allocates nothing.
 #[derive(Clone, Copy, Debug)]
 pub struct ConfigFaultText(pub ConfigFault);
 

@@ -1,4 +1,4 @@
-//! A service that goes on, with words about its configuration.
+//! The daemon, with words about its configuration.
 
 ghost use Rattle.std.specs.Prelude.{◌≡◌, ◌⊎◌};
 ghost use Rattle.trdp_program.specs.Attending.{AttendsProgram, step_of};
@@ -20,23 +20,23 @@ use trdp_dataset::NodeConfig;
 use trdp_report::{refused_ports, report, unjoined_groups};
 
 /// Serves a node of that configuration (TOML) over the system's sockets until the program is
-/// stopped: binds its UDP ports, and takes turns with rests between them. The line of its totals so
-/// far is offered to the writer with the first turn that begins so many seconds behind that of the
-/// line before, or behind the clock's first reading; never where the number is 0. It ends by itself
-/// where a port isn't bound or memory is wanting, and after 2^64 - 1 lines: the exit status is 1
-/// where the configuration isn't taken, 4 after another fault, and else 0. A fault gives a line on
-/// `errors`, or a front of it where `errors` fails. What becomes of either stream ends nothing
-/// (profile).
+/// stopped: binds its UDP ports, and takes turns with rests between them. The line of its totals
+/// so far is offered to the writer with the first turn that begins `seconds` seconds after that of
+/// the line before, or after the clock's first reading; never where `seconds` is 0. It ends by
+/// itself where a port isn't bound or an allocation fails, and after 2^64 - 1 lines. The exit
+/// status is 1 where the configuration is rejected, 4 after another fault, and else 0. A fault
+/// gives a line on `errors`, or a front of it where `errors` fails. Nothing that happens to either
+/// stream ends it (profile).
 ///
-/// The configuration is looked at first, and then the ports are bound: where it isn't taken,
+/// The configuration is looked at first, and then the ports are bound: where it is rejected,
 /// nothing is written.
 ///
-/// On `errors` stands before what the configuration means, what its author may not have meant, and
-/// which of its groups no link has joined; while it serves, at most once a second what the network
-/// refused, and why. Behind the fault's line stands each fault of a configuration that isn't taken,
-/// and else which ports the system refuses, and why (profile).
+/// On `errors` comes first what the configuration means, what its author may not have meant, and
+/// which of its groups no link has joined. While the node is served, what the network refused
+/// follows at most once a second, and why. The line of a fault is followed by each fault of a
+/// configuration that is rejected, and else by which ports the system refuses, and why (profile).
 ///
-/// The ports for lines are files of a folder, if there is one, and slots begin anew after a lease.
+/// The ports for lines are files of a folder, if there is one, and slots are reset after a lease.
 pub fn report_daemon<H: Files + Net + Clock + AllocGlobal, W: Stream, E: Write>(
     rt: &H,
     config: &[u8],
@@ -71,7 +71,7 @@ pub fn report_daemon<H: Files + Net + Clock + AllocGlobal, W: Stream, E: Write>(
 /// link has joined.
 ///
 /// # Errors
-/// Want of memory.
+/// `AllocError` where an allocation fails.
 fn first_words<H: Files + AllocGlobal>(
     rt: &H,
     config: &[u8],
@@ -84,7 +84,7 @@ fn first_words<H: Files + AllocGlobal>(
     Ok(text)
 }
 
-/// Tells which ports of a configuration the system refuses, where a service came to no good end.
+/// Writes which ports of a configuration the system refuses, where a service ended with a fault.
 fn tell_ports<H: Files + Net + AllocGlobal, E: Write>(
     rt: &H,
     config: &[u8],

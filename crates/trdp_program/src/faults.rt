@@ -7,7 +7,7 @@ use std::fmt;
 use trdp_script::{ScriptFault, line_fault_name};
 
 /// A script's fault as the program prints it (profile): `line N fault NAME`, or `read fault`,
-/// `write fault` or `memory fault`. To show it takes no memory.
+/// `write fault` or `memory fault`. Printing it allocates nothing.
 #[derive(Clone, Copy, Debug)]
 pub struct ScriptFaultText(pub ScriptFault);
 
@@ -30,7 +30,7 @@ impl fmt::Display for ScriptFaultText {
     }
 }
 
-/// The exit status of what a script came to: 0 at its end, 3 for a bad line, and else 4 (profile).
+/// The exit status of a script: 0 at its end, 3 for a bad line, and else 4 (profile).
 pub fn script_status(end: Result<(), ScriptFault>) -> u8
     ensures { result ≡ status_of_script end }
 {
@@ -41,18 +41,18 @@ pub fn script_status(end: Result<(), ScriptFault>) -> u8
     }
 }
 
-/// The exit status of a service that comes to no good end (profile).
+/// The exit status of a service that ends with a fault (profile).
 pub(crate) const SERVE_FAULT_STATUS: u8 = 4;
 
-/// Why a service comes to no good end. As the program prints it (profile) it is `bind fault`,
-/// `write fault` or `memory fault`; to show it takes no memory.
+/// Why a service ends with a fault. As the program prints it (profile) it is `bind fault`, `write
+/// fault` or `memory fault`; printing it allocates nothing.
 #[derive(Clone, Copy, Debug, PartialEq, Eq)]
 pub enum ServeFault {
     /// The system refuses one of the ports.
     Bind,
     /// The output can't be written.
     Write,
-    /// Memory was refused.
+    /// An allocation fails.
     OutOfMemory,
 }
 

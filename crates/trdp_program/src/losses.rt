@@ -1,4 +1,4 @@
-//! What the error stream is told of gives that the network refused.
+//! The lines on the error stream about gives that the network refused.
 
 ghost use Rattle.trdp_program.specs.Faults.{TellsText};
 
@@ -15,14 +15,14 @@ const LOOK_STEP: u64 = 1_000_000;
 /// Room for a line, in bytes: more than the longest.
 const LINE_ROOM: usize = 256;
 
-/// The gives that were lost, as far as the error stream was told of them.
+/// The gives that were lost, as far as the error stream has lines about them.
 #[derive(Drop)]
 pub(crate) struct Losses {
-    /// How many were lost up to the latest line that was told.
+    /// How many were lost up to the latest line that was written whole.
     told: u64,
     /// The reading of the clock, in microseconds, before which there is no further look.
     due: u64,
-    /// Whether the latest line was told only in part.
+    /// Whether the latest line was written only in part.
     is_cut: bool,
 }
 
@@ -41,9 +41,9 @@ impl Losses {
         self.due
     }
 
-    /// Tells in a line how many gives were lost since the line before, if there are any. There is
-    /// no further look for a second; `reading` is that of the last turn. What the stream doesn't
-    /// take counts in the next line.
+    /// Writes a line that says how many gives were lost since the line before, if there are any.
+    /// There is no further look for a second; `reading` is that of the last turn. What the stream
+    /// doesn't take counts in the next line.
     pub(crate) fn look<L: Wire, C: Clock, E: Write>(
         &mut self,
         daemon: &Daemon<L, C>,
@@ -70,7 +70,8 @@ impl Losses {
     }
 }
 
-/// Tells a line of losses, and before it ends a line that was cut. Answers whether all was told.
+/// Writes a line of losses, and before it ends a line that was cut. Returns whether all was
+/// written.
 fn tell_loss<E: Write>(is_cut: bool, loss: Loss, errors: &mut E) -> bool
     ensures { TellsText (E.contents errors.old) (E.contents errors.new) }
 {

@@ -15,15 +15,15 @@ use std::io::{Read, Write};
 use trdp_dataset::{ConfigFault, NodeConfig};
 use trdp_script::run_script;
 
-/// The exit status where the configuration isn't taken (profile).
+/// The exit status where the configuration is rejected (profile).
 pub const CONFIG_STATUS: u8 = 1;
 
 /// Runs a script from the reader over a node of that configuration (TOML), writes what the node
-/// gives to the writer, and answers the exit status: 0 at the script's end, 1 where the
-/// configuration isn't taken, 3 for a bad line, and else 4; a fault gives one line on `errors`, or
-/// a front of it where `errors` fails. What was written before a fault stands (profile).
+/// gives to the writer, and returns the exit status (profile). It is 0 at the script's end, 1
+/// where the configuration is rejected, 3 for a bad line, and else 4. A fault gives one line on
+/// `errors`, or a front of it where `errors` fails. What was written before a fault stays.
 ///
-/// The configuration is looked at before the script: where it isn't taken, nothing is written.
+/// The configuration is looked at before the script: where it is rejected, nothing is written.
 pub fn run_program<H: AllocGlobal, R: Read, W: Write, E: Write>(
     rt: &H,
     config: &[u8],
@@ -53,7 +53,7 @@ pub fn run_program<H: AllocGlobal, R: Read, W: Write, E: Write>(
 /// Reads the configuration (TOML). A fault gives one line on `errors`.
 ///
 /// # Errors
-/// The fault of the configuration, or want of memory in its place.
+/// The fault of the configuration, or `OutOfMemory` in its place.
 pub(crate) fn read_config<E: Write>(
     alloc: Global,
     config: &[u8],

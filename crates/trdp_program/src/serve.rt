@@ -22,11 +22,12 @@ use trdp_dataset::NodeConfig;
 use trdp_script::write_whole;
 
 /// Serves a node of that configuration (TOML) over the system's sockets: binds its UDP ports,
-/// takes so many turns without sleeping, writes the line of their totals to the writer, and
-/// answers the exit status: 0 after that line, 1 where the configuration isn't taken, and else 4;
-/// a fault gives one line on `errors`, or a front of it where `errors` fails (profile).
+/// takes `turns` turns without sleeping, writes the line of their totals to the writer, and
+/// returns the exit status (profile). It is 0 after that line, 1 where the configuration is
+/// rejected, and else 4. A fault gives one line on `errors`, or a front of it where `errors`
+/// fails.
 ///
-/// The configuration is looked at first, and then the ports are bound: where it isn't taken,
+/// The configuration is looked at first, and then the ports are bound: where it is rejected,
 /// nothing is written.
 pub fn serve_program<H: Net + Clock + AllocGlobal, W: Write, E: Write>(
     rt: &H,
@@ -56,7 +57,7 @@ pub fn serve_program<H: Net + Clock + AllocGlobal, W: Write, E: Write>(
 }
 
 /// Serves a node of that configuration (TOML) over the system's sockets as [`serve_program`] does:
-/// the ports for lines are files of a folder, if there is one, and slots begin anew after a lease.
+/// the ports for lines are files of a folder, if there is one, and slots are reset after a lease.
 pub fn serve_with<H: Files + Net + Clock + AllocGlobal, W: Write, E: Write>(
     rt: &H,
     config: &[u8],
@@ -85,7 +86,7 @@ pub fn serve_with<H: Files + Net + Clock + AllocGlobal, W: Write, E: Write>(
     }
 }
 
-/// Binds the ports of a configuration as the options say, takes so many turns at them, and writes
+/// Binds the ports of a configuration as the options say, takes `turns` turns at them, and writes
 /// the line of their totals.
 ///
 /// # Errors
@@ -110,7 +111,7 @@ fn serve_options<H: Files + Net + Clock + AllocGlobal, W: Write>(
     }
 }
 
-/// Binds the UDP ports of a configuration, takes so many turns at them, with a lease, and writes
+/// Binds the UDP ports of a configuration, takes `turns` turns at them, with a lease, and writes
 /// the line of their totals.
 ///
 /// # Errors
@@ -168,7 +169,7 @@ fn serve_controls<H: Files + Net + Clock + AllocGlobal, W: Write>(
     )
 }
 
-/// Opens a node of a configuration over a wire and a clock, with a lease, takes so many turns, and
+/// Opens a node of a configuration over a wire and a clock, with a lease, takes `turns` turns, and
 /// writes the line of their totals.
 ///
 /// # Errors
@@ -191,9 +192,10 @@ fn serve_at<L: Wire + Drop, C: trdp_daemon::Clock + Drop, W: Write>(
     write_totals(alloc, totals, writer)
 }
 
-/// Opens a node of a configuration over a wire and a clock, with a lease, and takes so many turns.
-/// Answers their totals: those of the turns that the wire and the clock tell of, where they tell.
-/// The system's sockets and clock tell nothing, so that of them only the number of turns is left.
+/// Opens a node of a configuration over a wire and a clock, with a lease, and takes `turns` turns.
+/// Returns their totals: those of the turns that the wire and the clock report, where they report.
+/// The system's sockets and clock report nothing, so that of them only the number of turns is
+/// left.
 ///
 /// # Errors
 /// `OutOfMemory`.
@@ -234,7 +236,7 @@ fn write_totals<W: Write>(alloc: Global, totals: Totals, writer: &mut W) -> Resu
 }
 
 /// The totals of a service as the program prints them (profile): `taken T offered O lost L unread
-/// U memory M`. To show them takes no memory.
+/// U memory M`. Printing them allocates nothing.
 #[derive(Clone, Copy)]
 pub(crate) struct TotalsText(pub(crate) Totals);
 

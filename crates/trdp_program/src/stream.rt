@@ -9,24 +9,24 @@ use libc::types::pollfd;
 use std::io;
 use std::io::{Stderr, Stdout, Write};
 
-/// A stream that takes bytes at once or not at all. It may tell what it was asked to take.
+/// A stream that takes bytes at once or not at all. It may report what it was asked to take.
 pub trait Stream {
     ghost use Rattle.std.specs.Prelude.{List, Option};
     ghost use Rattle.trdp_program.specs.Streams.{Attempt};
 
     /// What it was asked to take, in order, and how much of it that took; none where this stream
-    /// doesn't tell.
+    /// reports nothing.
     ghost attempts: { Self → Option (List Attempt) };
 
-    /// Asks it to take bytes, and answers how many it took of them, from the front: none where it
-    /// would have to wait, or is at fault.
+    /// Asks it to take bytes, and returns how many it took of them, from the front: 0 where it
+    /// would have to wait, or fails.
     fn try_write(&mut self, bytes: &[u8]) -> usize
         ensures within { result ≤ length bytes.now }
         ensures told { TellsMore (attempts self.old) (attempts self.new)
             (attempt bytes.now result ∷ []) };
 }
 
-/// How many bytes at most go to the system at once: a pipe that is ready takes as many without a
+/// The most bytes that go to the system at once: a pipe that is ready takes that many without a
 /// wait (POSIX's PIPE_BUF on Linux).
 const PIPE_BYTES: usize = 4_096;
 

@@ -1,4 +1,4 @@
-//! What the error stream is told.
+//! What is written to the error stream.
 
 ghost use Rattle.std.specs.Prelude.{◌≡◌, ◌++◌, true, codes, IfSome};
 ghost use Rattle.std.specs.Io.KnownBytes.{Appends};
@@ -16,8 +16,8 @@ use trdp_script::write_whole;
 /// Room for the line of a fault, in bytes: more than the longest.
 const FAULT_ROOM: usize = 128;
 
-/// Tells a fault in one line, which takes no memory, and answers whether the whole line was told.
-/// One that can't be told, or only in part, is a fault all the same.
+/// Writes a fault in one line, which allocates nothing, and returns whether the whole line was
+/// written. The fault is one also where its line can't be written, or only in part.
 pub(crate) fn tell_fault<F: Display + Drop, E: Write>(fault: F, errors: &mut E) -> bool
     ensures told { IfSome (F.output fault) (λ text.
         TellsFault text (E.contents errors.old) (E.contents errors.new)) }
@@ -32,7 +32,7 @@ pub(crate) fn tell_fault<F: Display + Drop, E: Write>(fault: F, errors: &mut E) 
     }
 }
 
-/// Tells a fault of a configuration, and behind its line each fault of the file.
+/// Writes a fault of a configuration, and after its line each fault of the file.
 pub(crate) fn tell_config_fault<E: Write>(
     alloc: Global,
     config: &[u8],
@@ -47,7 +47,7 @@ pub(crate) fn tell_config_fault<E: Write>(
     }
 }
 
-/// Tells a text, or nothing where memory is wanting for it.
+/// Writes a text, or nothing where an allocation for it failed.
 pub(crate) fn tell_text<E: Write>(text: Result<String, AllocError>, errors: &mut E)
     ensures { TellsText (E.contents errors.old) (E.contents errors.new) }
 {

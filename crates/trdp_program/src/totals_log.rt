@@ -1,4 +1,4 @@
-//! The lines of totals of a service that goes on.
+//! The lines of totals of a daemon.
 
 ghost use Rattle.std.specs.Prelude.{◌≡◌, ◌+◌, ◌-◌, ◌^◌, ◌++◌, [], ◌∷◌, List, take, min, ℕ};
 ghost use Rattle.std.specs.Prelude.{OnOk, IfOk, IfErr, false, string_bytes};
@@ -79,7 +79,7 @@ impl TotalsLog {
 /// The line of totals, and before it the end of a line that was cut.
 ///
 /// # Errors
-/// Want of memory.
+/// `AllocError` where an allocation fails.
 fn line_of(alloc: Global, is_cut: bool, totals: Totals) -> Result<String, AllocError>
     ensures { IfOk result (λ line. string_bytes line
         ≡ line_end is_cut ++ text_of_line totals) }
@@ -95,8 +95,8 @@ fn line_end(is_cut: bool) -> &'static str
     if is_cut { "\n" } else { "" }
 }
 
-/// Whether a line is cut behind these bytes, of which the last isn't its end; as before where there
-/// are none.
+/// Whether a line is cut after these bytes: the last of them isn't its end. Without any, as
+/// before.
 fn is_cut_behind(before: bool, bytes: &[u8]) -> bool
     ensures { result ≡ is_cut_behind before bytes.now }
 {

@@ -110,7 +110,7 @@ fn listen<H: Files + Net + AllocGlobal, N: Wire + Drop>(
     }
 }
 
-/// What it is to a service that its ports aren't bound.
+/// The fault of a service whose ports aren't bound.
 fn bind_fault(fault: BindFault) -> ServeFault
     ensures { result ≢ ServeFault.Write }
 {
@@ -120,7 +120,7 @@ fn bind_fault(fault: BindFault) -> ServeFault
     }
 }
 
-/// What it is to a service that the system doesn't end its rests for its paths.
+/// The fault of a service where the system doesn't end its rests for its paths.
 fn registry_fault(error: io::Error) -> ServeFault
     ensures { result ≢ ServeFault.Write }
 {

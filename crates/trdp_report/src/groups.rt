@@ -11,14 +11,14 @@ use trdp_dataset::NodeConfig;
 /// Where Linux says which groups its links have joined.
 const JOINED: &str = "/proc/net/igmp";
 
-/// How many digits a group has there.
+/// The number of digits of a group there.
 const DIGITS: usize = 8;
 
 /// A line for each group of a node that no link has joined, so that nothing comes from there; none
-/// where the system doesn't say which are.
+/// where the system doesn't report which are joined.
 ///
 /// # Errors
-/// Want of memory.
+/// `AllocError` where an allocation fails.
 pub fn unjoined_groups<R: Files + AllocGlobal>(
     rt: &R,
     alloc: Global,
@@ -39,14 +39,14 @@ pub fn unjoined_groups<R: Files + AllocGlobal>(
 /// Adds a line for a group that isn't among those which were joined.
 ///
 /// # Errors
-/// Want of memory.
+/// `AllocError` where an allocation fails.
 fn push_unjoined(
     alloc: Global,
     text: &mut String,
     group: Ip,
     joined: &[u8],
 ) -> Result<(), AllocError> {
-    // It stands there in hexadecimal, its bytes reversed.
+    // It is there in hexadecimal, its bytes reversed.
     let digits = format!(in alloc; "{:08X}", group.0.swap_bytes())?;
     if joined.windows(DIGITS).any(|word| word == digits.as_bytes()) {
         return Ok(());

@@ -8,9 +8,11 @@
 //! let text = refused_ports(rt, alloc, &taken, None)?;     // port 10.0.0.1:17224: ..
 //! ```
 //!
-//! Each answers lines, or none where there is nothing to say. The words are no proof's matter: no
-//! function has clauses, so that a text which is left out breaks none. Which words are told, and
-//! which place, is shown by tests.
+//! Each returns lines, or none where there is nothing to say. `trdp_program` writes them for a
+//! check and for a daemon.
+//!
+//! The words are **tested**, not proved: no function has clauses, so a text that is left out
+//! breaks none. Tests show which words come, and at which place of the file.
 #![tactic(auto)]
 
 mod groups;

@@ -22,12 +22,12 @@ pub(crate) fn shown(ip: Ip) -> Ipv4Addr {
     Ipv4Addr::from_bits(ip.0)
 }
 
-/// Adds what a configuration means: a line for the node, one for each group, one for each slot, one
-/// for the spare control ports, and one for each dataset. The ports for lines are files of a folder,
-/// if there is one.
+/// Adds what a configuration means: a line for the node, one for each group, one for each slot,
+/// one for the spare control ports, and one for each dataset. The ports for lines are files of a
+/// folder, if there is one.
 ///
 /// # Errors
-/// Want of memory.
+/// `AllocError` where an allocation fails.
 pub(crate) fn push_meaning(
     text: &mut String,
     config: &NodeConfig,
@@ -45,7 +45,7 @@ pub(crate) fn push_meaning(
 /// Adds the line of the node, and the one of its operator's port.
 ///
 /// # Errors
-/// Want of memory.
+/// `AllocError` where an allocation fails.
 fn push_node(
     text: &mut String,
     config: &NodeConfig,
@@ -68,7 +68,7 @@ fn push_node(
 /// Adds the line of each group, with the command by which a link joins it.
 ///
 /// # Errors
-/// Want of memory.
+/// `AllocError` where an allocation fails.
 fn push_groups(text: &mut String, config: &NodeConfig) -> Result<(), AllocError> {
     for group in config.groups() {
         let group = shown(Ip(*group));
@@ -83,7 +83,7 @@ fn push_groups(text: &mut String, config: &NodeConfig) -> Result<(), AllocError>
 /// Adds the line of a slot.
 ///
 /// # Errors
-/// Want of memory.
+/// `AllocError` where an allocation fails.
 fn push_slot(
     text: &mut String,
     config: &NodeConfig,
@@ -108,7 +108,7 @@ fn push_slot(
 /// Adds the quotas of a slot.
 ///
 /// # Errors
-/// Want of memory.
+/// `AllocError` where an allocation fails.
 fn push_quotas(text: &mut String, quotas: Quotas) -> Result<(), AllocError> {
     let mut mark = ":";
     for (kind, name) in KINDS.iter().enumerate() {
@@ -122,7 +122,7 @@ fn push_quotas(text: &mut String, quotas: Quotas) -> Result<(), AllocError> {
 /// Adds the line of the spare control ports, if there are any.
 ///
 /// # Errors
-/// Want of memory.
+/// `AllocError` where an allocation fails.
 fn push_spare_ports(
     text: &mut String,
     config: &NodeConfig,
@@ -147,7 +147,7 @@ fn push_spare_ports(
 /// Adds the lines of the datasets.
 ///
 /// # Errors
-/// Want of memory.
+/// `AllocError` where an allocation fails.
 fn push_datasets(text: &mut String, config: &NodeConfig) -> Result<(), AllocError> {
     let registry = config.registry();
     for index in 0..registry.len() {
@@ -161,7 +161,7 @@ fn push_datasets(text: &mut String, config: &NodeConfig) -> Result<(), AllocErro
 /// Adds the line of a dataset.
 ///
 /// # Errors
-/// Want of memory.
+/// `AllocError` where an allocation fails.
 fn push_dataset(text: &mut String, config: &NodeConfig, id: u32) -> Result<(), AllocError> {
     let registry = config.registry();
     let elements = registry.elements(id).map_or(0, |elements| elements.len());

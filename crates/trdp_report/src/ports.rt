@@ -42,7 +42,7 @@ impl fmt::Display for PortKey {
 pub(crate) enum Site<'a> {
     /// A UDP port; the address 0.0.0.0 is every address.
     Udp(SocketAddrV4),
-    /// The file of a socket in a folder, by its number.
+    /// The file of a socket: its folder, and its name, which is a number.
     File(&'a str, u16),
 }
 
@@ -132,7 +132,7 @@ pub(crate) fn collision_at<'a>(ports: &[NamedPort<'a>], index: usize) -> Option<
 /// folder, if there is one.
 ///
 /// # Errors
-/// Want of memory.
+/// `AllocError` where an allocation fails.
 pub(crate) fn ports_of<'a>(
     alloc: Global,
     config: &NodeConfig,
@@ -165,7 +165,7 @@ pub(crate) fn ports_of<'a>(
 /// Adds the ports of the groups.
 ///
 /// # Errors
-/// Want of memory.
+/// `AllocError` where an allocation fails.
 fn push_group_ports<'a>(
     ports: &mut Vec<NamedPort<'a>>,
     config: &NodeConfig,
@@ -183,7 +183,7 @@ fn push_group_ports<'a>(
 /// Adds the control ports of the slots.
 ///
 /// # Errors
-/// Want of memory.
+/// `AllocError` where an allocation fails.
 fn push_control_ports<'a>(
     ports: &mut Vec<NamedPort<'a>>,
     config: &NodeConfig,
@@ -203,7 +203,7 @@ fn push_control_ports<'a>(
 /// Adds the spare control ports.
 ///
 /// # Errors
-/// Want of memory.
+/// `AllocError` where an allocation fails.
 fn push_spare_ports<'a>(
     ports: &mut Vec<NamedPort<'a>>,
     config: &NodeConfig,
@@ -223,7 +223,7 @@ fn push_spare_ports<'a>(
 /// Adds a port, unless its number is 0.
 ///
 /// # Errors
-/// Want of memory.
+/// `AllocError` where an allocation fails.
 fn push_port<'a>(
     ports: &mut Vec<NamedPort<'a>>,
     key: PortKey,

@@ -10,11 +10,11 @@ use trdp_controls::refused_path;
 use trdp_dataset::NodeConfig;
 
 /// A line for each port of a node that the system refuses, with its reason: those for lines are
-/// files of a folder, if there is one. Of a port that is named before, which it would refuse too,
-/// it tells by which keys. It asks for each other one once more, and gives them back.
+/// files of a folder, if there is one. A port that is named before would be refused too: its line
+/// names both keys. Each other port is asked for once more, and given back.
 ///
 /// # Errors
-/// Want of memory.
+/// `AllocError` where an allocation fails.
 pub fn refused_ports<R: Files + Net>(
     rt: &R,
     alloc: Global,
@@ -36,7 +36,7 @@ pub fn refused_ports<R: Files + Net>(
 /// Adds a line for a port if the system refuses it.
 ///
 /// # Errors
-/// Want of memory.
+/// `AllocError` where an allocation fails.
 fn push_refusal<R: Files + Net>(
     rt: &R,
     alloc: Global,
@@ -50,7 +50,7 @@ fn push_refusal<R: Files + Net>(
     }
 }
 
-/// Why the system refuses a port, if it does; `path` is how the port is printed.
+/// Why the system refuses a port; None where it doesn't. `path` is how the port is printed.
 fn refusal<R: Files + Net>(rt: &R, site: Site, path: &str) -> Option<io::Error> {
     match site {
         Site::Udp(place) => UdpSocket::bind(rt, SocketAddr::V4(place)).err(),

@@ -13,7 +13,7 @@ use trdp_head::PD_PAYLOAD_MAX;
 /// Adds a warning, a line, for each thing of a configuration that its author may not have meant.
 ///
 /// # Errors
-/// Want of memory.
+/// `AllocError` where an allocation fails.
 pub(crate) fn push_warnings(
     alloc: Global,
     text: &mut String,
@@ -36,7 +36,7 @@ pub(crate) fn push_warnings(
 /// Adds a warning where an address is none of a device's own.
 ///
 /// # Errors
-/// Want of memory.
+/// `AllocError` where an allocation fails.
 fn push_address(text: &mut String, key: &str, address: Ipv4Addr) -> Result<(), AllocError> {
     if address.is_unspecified() {
         writeln!(
@@ -76,7 +76,7 @@ fn has_control_port(config: &NodeConfig) -> bool {
 /// Adds a warning where the control ports are at an address that the network reaches.
 ///
 /// # Errors
-/// Want of memory.
+/// `AllocError` where an allocation fails.
 fn push_control_address(text: &mut String, config: &NodeConfig) -> Result<(), AllocError> {
     let address = shown(config.control_address());
     if address.is_loopback() {
@@ -96,7 +96,7 @@ fn push_control_address(text: &mut String, config: &NodeConfig) -> Result<(), Al
 /// Adds a warning for each port that is named before.
 ///
 /// # Errors
-/// Want of memory.
+/// `AllocError` where an allocation fails.
 fn push_collisions(text: &mut String, ports: &[NamedPort]) -> Result<(), AllocError> {
     for index in 0..ports.len() {
         if let Some(both) = collision_at(ports, index) {
@@ -112,10 +112,10 @@ fn push_collisions(text: &mut String, ports: &[NamedPort]) -> Result<(), AllocEr
     Ok(())
 }
 
-/// Adds a warning for each path that is longer than the system takes.
+/// Adds a warning for each path that is longer than the system accepts.
 ///
 /// # Errors
-/// Want of memory.
+/// `AllocError` where an allocation fails.
 fn push_long_paths(
     alloc: Global,
     text: &mut String,
@@ -140,7 +140,7 @@ fn push_long_paths(
 /// Adds a warning where a slot can hold nothing.
 ///
 /// # Errors
-/// Want of memory.
+/// `AllocError` where an allocation fails.
 fn push_empty_slot(text: &mut String, config: &NodeConfig, slot: usize) -> Result<(), AllocError> {
     match config.quotas(slot) {
         Some(quotas) if is_nothing(quotas) => {
@@ -161,7 +161,7 @@ fn is_nothing(quotas: Quotas) -> bool {
 /// Adds a warning for each dataset that process data can't carry.
 ///
 /// # Errors
-/// Want of memory.
+/// `AllocError` where an allocation fails.
 fn push_long_datasets(text: &mut String, config: &NodeConfig) -> Result<(), AllocError> {
     let registry = config.registry();
     for index in 0..registry.len() {
@@ -175,7 +175,7 @@ fn push_long_datasets(text: &mut String, config: &NodeConfig) -> Result<(), Allo
 /// Adds a warning where a dataset is longer than process data carries.
 ///
 /// # Errors
-/// Want of memory.
+/// `AllocError` where an allocation fails.
 fn push_long_dataset(text: &mut String, id: u32, size: usize) -> Result<(), AllocError> {
     if size <= PD_PAYLOAD_MAX {
         return Ok(());

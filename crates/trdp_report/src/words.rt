@@ -1,4 +1,4 @@
-//! The words about a configuration file that is taken.
+//! The words about a configuration that is accepted.
 
 use crate::meaning::push_meaning;
 use crate::warnings::push_warnings;
@@ -9,7 +9,7 @@ use trdp_dataset::{NodeConfig, telegram_doubts, unknown_keys};
 /// what the bytes mean; the ports for lines are files of a folder, if there is one.
 ///
 /// # Errors
-/// Want of memory.
+/// `AllocError` where an allocation fails.
 pub fn report(
     alloc: Global,
     config: &[u8],

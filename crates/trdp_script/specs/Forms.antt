@@ -85,10 +85,12 @@ abbrev pub any_or_32 : Part
 any_or_32 = AnyOrNumberField (2 ^ 32 - 1)
 
 -- moment T
+-- rule: event.moment
 abbrev pub moment_form : LineForm
 moment_form = record { parts = Keyword (codes "moment") ∷ number_64 ∷ []; event = λ t. MomentIs t }
 
 -- topology ETB OPTRN
+-- rule: event.topology
 abbrev pub topology_form : LineForm
 topology_form = record {
   parts = Keyword (codes "topology") ∷ number_32 ∷ number_32 ∷ [];
@@ -96,6 +98,7 @@ topology_form = record {
 }
 
 -- role GROUP leader|follower
+-- rule: event.role
 abbrev pub role_form : LineForm
 role_form = record {
   parts = Keyword (codes "role") ∷ number_8 ∷ ChoiceField (codes "leader") (codes "follower") ∷ [];
@@ -115,10 +118,12 @@ datagram_form protocol = record {
 }
 
 -- pd SRC DST HEX
+-- rule: event.pd
 abbrev pub pd_form : LineForm
 pd_form = datagram_form Pd
 
 -- md SRC DST HEX
+-- rule: event.md
 abbrev pub md_form : LineForm
 md_form = datagram_form Md
 
@@ -139,6 +144,7 @@ handle_form word call =
     call_form word (number_32 ∷ []) (λ slot handle. CallIs slot (call handle))
 
 -- call SLOT publish COMID DATASET CYCLE GROUP ETB OPTRN TO
+-- rule: call.publish
 abbrev pub publish_form : LineForm
 publish_form =
     call_form (codes "publish")
@@ -153,12 +159,14 @@ publish_form =
     })))
 
 -- call SLOT put HANDLE HEX
+-- rule: call.put
 abbrev pub put_form : LineForm
 put_form =
     call_form (codes "put") (number_32 ∷ BytesField ∷ [])
     (λ slot handle bytes. CallIs slot (PutCall handle bytes))
 
 -- call SLOT unpublish HANDLE
+-- rule: call.unpublish
 abbrev pub unpublish_form : LineForm
 unpublish_form = handle_form (codes "unpublish") (λ handle. UnpublishCall handle)
 
@@ -167,6 +175,7 @@ abbrev pub behaviour_of : Bool → Behaviour
 behaviour_of zero = if zero then Zero else Keep
 
 -- call SLOT subscribe COMID DATASET LOW HIGH DEST ETB OPTRN TIME zero|keep
+-- rule: call.subscribe
 abbrev pub subscribe_form : LineForm
 subscribe_form =
     call_form (codes "subscribe")
@@ -187,14 +196,17 @@ subscribe_form =
     })))
 
 -- call SLOT get HANDLE
+-- rule: call.get
 abbrev pub get_form : LineForm
 get_form = handle_form (codes "get") (λ handle. GetCall handle)
 
 -- call SLOT unsubscribe HANDLE
+-- rule: call.unsubscribe
 abbrev pub unsubscribe_form : LineForm
 unsubscribe_form = handle_form (codes "unsubscribe") (λ handle. UnsubscribeCall handle)
 
 -- call SLOT openpull COMID REPLYCOMID REPLYIP ETB OPTRN TO
+-- rule: call.openpull
 abbrev pub open_pull_form : LineForm
 open_pull_form =
     call_form (codes "openpull")
@@ -208,14 +220,17 @@ open_pull_form =
     })))
 
 -- call SLOT pull HANDLE
+-- rule: call.pull
 abbrev pub pull_form : LineForm
 pull_form = handle_form (codes "pull") (λ handle. PullCall handle)
 
 -- call SLOT closepull HANDLE
+-- rule: call.closepull
 abbrev pub close_pull_form : LineForm
 close_pull_form = handle_form (codes "closepull") (λ handle. ClosePullCall handle)
 
 -- call SLOT listen COMID|any LOW HIGH DEST URI ETB OPTRN
+-- rule: call.listen
 abbrev pub listen_form : LineForm
 listen_form =
     call_form (codes "listen")
@@ -230,10 +245,12 @@ listen_form =
     })))
 
 -- call SLOT unlisten HANDLE
+-- rule: call.unlisten
 abbrev pub unlisten_form : LineForm
 unlisten_form = handle_form (codes "unlisten") (λ handle. UnlistenCall handle)
 
 -- call SLOT notify COMID SOURCEURI DESTURI ETB OPTRN TO HEX
+-- rule: call.notify
 abbrev pub notify_form : LineForm
 notify_form =
     call_form (codes "notify")
@@ -247,6 +264,7 @@ notify_form =
     } in CallIs slot (NotifyCall terms payload))
 
 -- call SLOT request COMID SESSION EXPECTED TIME SOURCEURI DESTURI ETB OPTRN TO HEX [RETRIES]
+-- rule: call.request
 abbrev pub request_form : LineForm
 request_form =
     call_form (codes "request")
@@ -266,12 +284,14 @@ request_form =
     } in CallIs slot (RequestCall terms payload))
 
 -- call SLOT reply HANDLE COMID STATUS HEX
+-- rule: call.reply
 abbrev pub reply_form : LineForm
 reply_form =
     call_form (codes "reply") (number_32 ∷ number_32 ∷ StatusField ∷ BytesField ∷ [])
     (λ slot handle com_id status payload. CallIs slot (ReplyCall handle com_id status payload))
 
 -- call SLOT query HANDLE COMID STATUS TIME HEX
+-- rule: call.query
 abbrev pub query_form : LineForm
 query_form =
     call_form (codes "query") (number_32 ∷ number_32 ∷ StatusField ∷ number_32 ∷ BytesField ∷ [])
@@ -279,26 +299,31 @@ query_form =
     CallIs slot (QueryCall handle com_id status timeout payload))
 
 -- call SLOT replyerror HANDLE COMID STATUS
+-- rule: call.replyerror
 abbrev pub reply_error_form : LineForm
 reply_error_form =
     call_form (codes "replyerror") (number_32 ∷ number_32 ∷ StatusField ∷ [])
     (λ slot handle com_id status. CallIs slot (ReplyErrorCall handle com_id status))
 
 -- call SLOT confirm HANDLE PLACE STATUS
+-- rule: call.confirm
 abbrev pub confirm_form : LineForm
 confirm_form =
     call_form (codes "confirm") (number_32 ∷ PlaceField ∷ StatusField ∷ [])
     (λ slot handle place status. CallIs slot (ConfirmCall handle place status))
 
 -- call SLOT abort HANDLE
+-- rule: call.abort
 abbrev pub abort_form : LineForm
 abort_form = handle_form (codes "abort") (λ handle. AbortCall handle)
 
 -- call SLOT reset
+-- rule: call.reset
 abbrev pub reset_form : LineForm
 reset_form = call_form (codes "reset") [] (λ slot. CallIs slot ResetCall)
 
 -- addslot PUBLISHERS SUBSCRIPTIONS REQUESTERS LISTENERS CALLERS REPLIERS
+-- rule: event.addslot
 abbrev pub add_slot_form : LineForm
 add_slot_form = record {
   parts = Keyword (codes "addslot") ∷ quota ∷ quota ∷ quota ∷ quota ∷ quota ∷ quota ∷ [];
@@ -314,7 +339,7 @@ forms =
     ∷ close_pull_form ∷ listen_form ∷ unlisten_form ∷ notify_form ∷ request_form ∷ reply_form
     ∷ query_form ∷ reply_error_form ∷ confirm_form ∷ abort_form ∷ reset_form ∷ add_slot_form ∷ []
 
--- whether the keywords stand among the words where they are to stand
+-- whether the keywords are at their places among the words
 unfoldable pub has_keywords : List Part → List (List ℕ) → Bool
 has_keywords [] words = true
 has_keywords (Keyword word ∷ parts) words =

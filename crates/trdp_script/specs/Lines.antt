@@ -13,11 +13,13 @@ use Rattle.trdp_script.specs.declared.fault.LineFault.TheVariants.{TooLong, Unkn
 use Rattle.trdp_script.specs.declared.fault.LineFault.TheVariants.{BadWord, OutOfMemory}
 
 -- the line is empty or begins with `#`
+-- rule: line.skip
 abbrev pub is_skipped : List ℕ → Bool
 is_skipped [] = true
 is_skipped (byte ∷ bytes) = byte == 35
 
 -- an event that the words of a form give; none where one of them is bad
+-- rule: line.bad
 abbrev pub event_or_fault : Option EventModel → Result (Option EventModel) LineFault
 event_or_fault (Some event) = Ok (Some event)
 event_or_fault None = Err BadWord
@@ -28,11 +30,12 @@ least_words [] = 0
 least_words (LastNumberField max ∷ parts) = least_words parts
 least_words (part ∷ parts) = suc (least_words parts)
 
--- a line of these parts may have so many words
+-- a line of these parts may have that many words
 abbrev pub may_have : List Part → ℕ → Bool
 may_have parts n = nat_le (least_words parts) n && nat_le n (length parts)
 
 -- what words say that have the keywords of that form
+-- rule: line.count
 unfoldable pub form_says : LineForm → List (List ℕ) → Result (Option EventModel) LineFault
 unfolding least_words event_of_words
 form_says form words =
@@ -40,7 +43,8 @@ form_says form words =
     then event_or_fault (event_in form words)
     else Err Count
 
--- what words say that have the keywords of that form; none: of no form
+-- what words say that have the keywords of that form; none where they have those of no form
+-- rule: line.unknown
 unfoldable pub words_say : Option LineForm → List (List ℕ) → Result (Option EventModel) LineFault
 words_say None words = Err Unknown
 words_say (Some form) words = form_says form words
@@ -56,6 +60,7 @@ say_among known words = words_say (form_among known words) words
 
 -- where a line can have these forms: the event of a line without its end, none where it is
 -- skipped, or the first of its faults
+-- rule: line.length
 unfoldable pub line_among : List LineForm → List ℕ → Result (Option EventModel) LineFault
 line_among known text =
     if nat_lt 140000 (length text) then Err TooLong
@@ -66,8 +71,8 @@ line_among known text =
 abbrev pub line_of : List ℕ → Result (Option EventModel) LineFault
 line_of text = line_among forms text
 
--- what was read is the event of the line, none where it is skipped, or memory ran out for the bytes
--- of a line that carries some, where nothing else is wrong
+-- what was read is the event of the line, none where it is skipped, or an allocation failed for
+-- the bytes of a line that carries some, where nothing else is wrong
 abbrev pub ReadsLine : Result (Option EventModel) LineFault → Result (Option EventModel) LineFault
     → Type 0
 ReadsLine (Ok event) (Ok read) = read ≡ event
@@ -75,7 +80,7 @@ ReadsLine (Ok event) (Err fault) = (fault ≡ OutOfMemory) × (carries_bytes eve
 ReadsLine (Err fault) (Ok read) = ⊥
 ReadsLine (Err fault) (Err other) = other ≡ fault
 
--- the same, wherever the bytes of the event lie that was read
+-- the same, wherever the bytes of the event that was read are
 abbrev pub Reads : Result (Option EventModel) LineFault → Result (Option Event) LineFault → Type 0
 Reads meaning (Ok read) = ReadsLine meaning (Ok (option_map event_model read))
 Reads meaning (Err fault) = ReadsLine meaning (Err fault)

@@ -10,7 +10,7 @@ Lacks it bytes = All (λ byte. (byte == it) ≡ false) bytes
 abbrev pub IsBare : List ℕ → Type 0
 IsBare bytes = Lacks 10 bytes
 
--- the bytes are those before the first that is that byte, the byte, and those behind it
+-- the bytes are those before the first that is that byte, the byte, and those after it
 pub record IsSplit (it : ℕ) (bytes before behind : List ℕ) : Type 0 where
   pub whole : bytes ≡ before ++ it ∷ behind
   pub bare : Lacks it before

@@ -26,6 +26,7 @@ unfoldable pub call_line : ℕ → List ℕ → List ℕ
 call_line slot text = call_word ++ 32 ∷ text_of_number slot ++ 32 ∷ text
 
 -- at the control port of that slot: a call of its application without `call SLOT `
+-- rule: control.line
 unfoldable pub control_line_of : ℕ → List ℕ → Result (Option EventModel) LineFault
 control_line_of slot bytes =
     let text = without_end bytes in
@@ -67,6 +68,7 @@ operator_words words = operator_says (question_of (first_word words)) words
 
 -- at the operator's port: a line of the forms `topology`, `role` and `addslot`, or the question
 -- `totals` or `slots`, any other being unknown; none where it is skipped
+-- rule: control.operator
 unfoldable pub operator_line_of : List ℕ → Result (Option OperatorSays) LineFault
 operator_line_of bytes =
     let text = without_end bytes in

@@ -38,6 +38,7 @@ use Rattle.trdp_model.specs.declared.record.Protocol.{Protocol}
 use Rattle.trdp_model.specs.declared.record.Protocol.TheVariants.{Pd, Md}
 
 -- the name of a node's fault
+-- rule: out.fault
 abbrev pub name_of_fault : NodeFault → List ℕ
 name_of_fault NoSlot = codes "NoSlot"
 name_of_fault Past = codes "Past"
@@ -47,6 +48,7 @@ name_of_fault OutOfMemory = codes "OutOfMemory"
 name_of_fault SlotsFull = codes "SlotsFull"
 
 -- the name of a refusal
+-- rule: out.refusal
 abbrev pub name_of_refusal : Refusal → List ℕ
 name_of_refusal NoHandle = codes "NoHandle"
 name_of_refusal WrongKind = codes "WrongKind"
@@ -80,6 +82,7 @@ letters_of_kind Confirm = codes "Mc"
 letters_of_kind Error = codes "Me"
 
 -- the name of why a request or an answer is over
+-- rule: out.reason
 abbrev pub name_of_reason : Reason → List ℕ
 name_of_reason Done = codes "Done"
 name_of_reason NoReply = codes "NoReply"
@@ -89,6 +92,7 @@ name_of_reason ReplyMissed = codes "ReplyMissed"
 name_of_reason NoConfirm = codes "NoConfirm"
 
 -- the name of a line's fault
+-- rule: line.fault
 abbrev pub name_of_line_fault : LineFault → List ℕ
 name_of_line_fault LineTooLong = codes "TooLong"
 name_of_line_fault Unknown = codes "Unknown"
@@ -97,11 +101,13 @@ name_of_line_fault BadWord = codes "BadWord"
 name_of_line_fault NoLineMemory = codes "OutOfMemory"
 
 -- the words of what a subscription shows, with a space before each
+-- rule: out.value
 unfoldable pub text_of_peek : PeekModel → List ℕ
 text_of_peek peek = codes " value " ++ name_of_state peek.state
     ++ codes " " ++ text_of_number peek.counter ++ codes " " ++ text_of_hex peek.bytes
 
 -- the words of an answer, with a space before each
+-- rule: out.answer
 unfoldable pub text_of_answer : AnswerModel → List ℕ
 text_of_answer (HandleIs handle) = codes " handle " ++ text_of_number handle
 text_of_answer DoneIs = codes " done"
@@ -123,7 +129,8 @@ text_of_reply reply = codes " " ++ text_of_place reply.src
     ++ codes " " ++ letters_of_kind reply.kind ++ codes " " ++ text_of_status reply.status
     ++ codes " " ++ text_of_number reply.com_id ++ codes " " ++ text_of_hex reply.payload
 
--- the words of what a node tells of its own accord, with a space before each
+-- the words of what a node reports of its own accord, with a space before each
+-- rule: out.indication
 unfoldable pub text_of_indication : IndicationModel → List ℕ
 text_of_indication (SilentIs handle) = codes " silent " ++ text_of_number handle
 text_of_indication (AliveIs handle) = codes " alive " ++ text_of_number handle
@@ -146,6 +153,7 @@ words_of_send Pd = codes " send pd "
 words_of_send Md = codes " send md "
 
 -- a telegram with its protocol, its destination and its bytes, with a space before each
+-- rule: out.send
 unfoldable pub text_of_send : Protocol → Place → List ℕ → List ℕ
 text_of_send protocol to telegram =
     words_of_send protocol ++ text_of_place to ++ codes " " ++ text_of_hex telegram
@@ -158,6 +166,7 @@ text_of_content (Indicates indication) = text_of_indication indication
 text_of_content (Sends protocol to telegram) = text_of_send protocol to telegram
 
 -- the slot's number, what the record says, and a newline
+-- rule: out.record
 unfoldable pub text_of_record : RecordModel → List ℕ
 text_of_record r = text_of_number r.slot ++ text_of_content r.content ++ codes "\n"
 

@@ -1,4 +1,4 @@
--- What the run of a script comes to, where the reader and the writer tell their bytes.
+-- What the run of a script does, where the reader and the writer report their bytes.
 use Rattle.std.specs.Prelude.{◌≡◌, ◌⊎◌, ◌++◌, ℕ, List, [], take}
 use Rattle.std.specs.Prelude.{Option, Some, None, Result, Ok, Err}
 use Rattle.std.specs.Io.KnownBytes.{Appends}
@@ -14,14 +14,14 @@ use Rattle.trdp_script.specs.ScriptText.{events_of, events_text, fault_from}
 use Rattle.trdp_script.specs.ScriptText.{script_fault, script_text}
 use Rattle.trdp_script.specs.Wants.{NextMayWant}
 
--- the first lines of a script, so many, have no fault, and the text of their events was written
+-- the first `count` lines of a script have no fault, and the text of their events was written
 pub record PlaysLines (config : ConfigModel) (input : List ℕ) (count : ℕ)
     (old new : Option (List ℕ)) : Type 0 where
   pub no_fault : fault_from 1 (take count (lines input)) ≡ None
   pub written : Appends old new
       (events_text (opened_model config) (events_of (take count (lines input))))
 
--- a front of the input was read, behind which the reader gave no more or wasn't asked, and the
+-- a front of the input was read, after which the reader gave no more or wasn't asked, and the
 -- lines that had their end in it were played
 pub record StopsReading (config : ConfigModel) (input : List ℕ) (left old new : Option (List ℕ))
     : Type 0 where
@@ -35,7 +35,8 @@ pub record StopsReading (config : ConfigModel) (input : List ℕ) (left old new 
 abbrev pub HasNotBegun : List ℕ → Option (List ℕ) → ℕ → Type 0
 HasNotBegun input left count = (left ≡ Some input) × (count ≡ 0)
 
--- memory was refused, before the first line was read or for the line behind those that were played
+-- an allocation failed, before the first line was read or for the line after those that were
+-- played
 pub record StopsForMemory (config : ConfigModel) (input : List ℕ) (left old new : Option (List ℕ))
     : Type 0 where
   pub count : ℕ
@@ -63,7 +64,7 @@ pub record RunsToFault (config : ConfigModel) (input : List ℕ) (n : ℕ) (faul
   pub first : script_fault input ≡ Some (n, fault)
   pub written : Appends old new (script_text config input)
 
--- how a script with this input is run, of which the reader has that left in the end; what the
+-- how a script with this input is run, of which `left` is left to the reader in the end; what the
 -- writer holds is old, then new
 abbrev pub RunsScript : ConfigModel → List ℕ → Option (List ℕ) → Option (List ℕ)
     → Option (List ℕ) → Result (Unit {0}) ScriptFault → Type 0

@@ -1,4 +1,4 @@
--- A script on its way: what was told of the bytes that were read, and what is to come.
+-- A script on its way: the text of the bytes that were read, and what is to come.
 use Rattle.std.specs.Prelude.{◌≡◌, ◌≤◌, ◌+◌, ◌++◌, ◌∷◌, ℕ, List, [], length, take, vec_capacity}
 use Rattle.std.specs.Prelude.{Option, Some, None, Result, Ok, Err}
 use Rattle.std.specs.Str.Lines.{lines}
@@ -24,7 +24,7 @@ line_events (Ok (Some event)) = event ∷ []
 line_events (Ok None) = []
 line_events (Err fault) = []
 
--- the node of a player, of which nothing tells what an event cost
+-- the node of a player, in which nothing says what an event cost
 abbrev pub node_of : Player → NodeModel
 node_of player = uncounted player.node
 
@@ -34,7 +34,8 @@ pub record PlaysLine (old new : Player) (v w : Option (List ℕ)) (events : List
   pub node_is : node_of new ≡ nodes_after (node_of old) events
   pub passed : PassesOn v w old.output.items new.output.items (events_text (node_of old) events)
 
--- what came of the line of that number, which has this meaning; what the writer holds is v, then w
+-- the result of the line of that number, which has this meaning; what the writer holds is v, then
+-- w
 unfoldable pub LineComesTo : Player → Player → Option (List ℕ) → Option (List ℕ) → ℕ
     → Result (Option EventModel) LineFault → Result (Unit {0}) ScriptFault → Type 0
 LineComesTo old new v w number (Err bad) (Ok done) = ⊥
@@ -62,7 +63,7 @@ abbrev pub going : Script → Going
 going s = record { node = node_of s.player; line = s.line.items; number = s.number }
 
 -- bytes were taken: the lines that have their end in them have no fault, and their events were
--- played and told; what comes later means the same
+-- played and printed; what comes later means the same
 pub record TakesBytes (old new : Going) (bytes text : List ℕ) : Type 0 where
   pub ended : List (List ℕ)
   pub lines_are : (later : List ℕ)
@@ -73,7 +74,7 @@ pub record TakesBytes (old new : Going) (bytes text : List ℕ) : Type 0 where
   pub node_is : new.node ≡ nodes_after old.node (events_of ended)
   pub text_is : text ≡ events_text old.node (events_of ended)
 
--- bytes were taken, and what is told of them went on its way; what the writer holds is v, then w
+-- bytes were taken, and their text went on its way; what the writer holds is v, then w
 pub record Plays (old new : Script) (v w : Option (List ℕ)) (bytes : List ℕ) : Type 0 where
   pub text : List ℕ
   pub taken : TakesBytes (going old) (going new) bytes text
@@ -94,7 +95,7 @@ pub record StopsAt (old new : Script) (v w : Option (List ℕ)) (rest : List ℕ
   pub first : fault_from old.number (lines (old.line.items ++ rest)) ≡ Some (n, fault)
   pub text_is : text ≡ events_text (node_of old.player) (events_of (lines (old.line.items ++ rest)))
 
--- the first lines of the rest of the input, so many, have no fault, and were played
+-- the first `count` lines of the rest of the input have no fault, and were played
 pub record PlaysFirst (old new : Script) (v w : Option (List ℕ)) (rest : List ℕ) (count : ℕ)
     : Type 0 where
   pub text : List ℕ
@@ -113,7 +114,7 @@ pub record StopsUnread (old new : Script) (v w : Option (List ℕ)) (rest : List
   pub left_is : left ≡ Some behind
   pub played : PlaysFirst old new v w rest (ended_lines read)
 
--- memory was refused for a line of the rest of the input, and those before it were played
+-- an allocation failed for a line of the rest of the input, and those before it were played
 pub record StopsWanting (old new : Script) (v w : Option (List ℕ)) (rest : List ℕ) : Type 0 where
   pub count : ℕ
   pub played : PlaysFirst old new v w rest count
@@ -134,7 +135,7 @@ pub record IsSound (s : Script) : Type 0 where
   pub bare : IsBare s.line.items
   pub room : 140001 ≤ vec_capacity s.line
 
--- how the rest of a script is run, of which the reader has this left in the end
+-- how the rest of a script is run, of which this is left to the reader in the end
 unfoldable pub ComesTo : Script → Script → Option (List ℕ) → Option (List ℕ) → List ℕ
     → Option (List ℕ) → Result (Unit {0}) ScriptFault → Type 0
 ComesTo old new v w rest left (Ok done) = Ends old new v w rest × (left ≡ Some [])

@@ -21,30 +21,31 @@ use Rattle.trdp_script.specs.RecordText.{text_of_record, text_of_fault}
 
 -- the text of the records that these slots get at such an event, slots rising, each slot's in
 -- their order
+-- rule: out.order
 abbrev pub slots_text : NodeSetup → Globals → EventModel → ℕ → List SlotState → List ℕ
 slots_text setup g event s [] = []
 slots_text setup g event s (slot ∷ slots) =
     flat_map text_of_record (labelled s (records_after setup s slot g event))
     ++ slots_text setup g event (suc s) slots
 
--- what is told of an event with this fault, or of the records of one with none
+-- the text of an event with this fault, or of the records of one with none
 abbrev pub text_unless : Option NodeFault → NodeModel → EventModel → List ℕ
 text_unless (Some fault) node event = text_of_fault fault
 text_unless None node event =
     slots_text (setup_of node.config) node.globals event 0 node.slots
     ++ flat_map text_of_record (labelled (length node.slots) (told_opening event))
 
--- what is told of an event
+-- the text of an event
 abbrev pub event_text : NodeModel → EventModel → List ℕ
 event_text node event = text_unless (refused_as (length node.slots) node.globals event) node event
 
--- what is told of events, one after another
+-- the text of events, one after another
 abbrev pub events_text : NodeModel → List EventModel → List ℕ
 events_text node [] = []
 events_text node (event ∷ events) =
     event_text node event ++ events_text (node_after node event) events
 
--- the event of a line, and then these; a line that is skipped has none, and behind a line with a
+-- the event of a line, and then these; a line that is skipped has none, and after a line with a
 -- fault there is none
 abbrev pub after_line : Result (Option EventModel) LineFault → List EventModel
     → List EventModel
@@ -70,13 +71,16 @@ fault_from n (line ∷ lines) = fault_or n (line_of line) (fault_from (suc n) li
 
 -- the events of a script, whose lines end with a newline, or with a carriage return and a newline;
 -- the last may lack its end
+-- rule: line.end
 abbrev pub script_events : List ℕ → List EventModel
 script_events input = events_of (lines input)
 
 -- the number, counted from 1 over all lines, and the fault of a script's first line with a fault
+-- rule: line.counted
 abbrev pub script_fault : List ℕ → Option (ℕ × LineFault)
 script_fault input = fault_from 1 (lines input)
 
 -- what a script gives over a node of the configuration
+-- rule: run.text
 abbrev pub script_text : ConfigModel → List ℕ → List ℕ
 script_text config input = events_text (opened_model config) (script_events input)

@@ -1,4 +1,4 @@
--- Where a script may lack memory.
+-- Where a script may need memory.
 use Rattle.std.specs.Prelude.{◌≡◌, ◌≢◌, ◌⊎◌, ℕ, List, [], true, take, slice_get}
 use Rattle.std.specs.Prelude.{Option, Some, None, Result, Ok, Err}
 use Rattle.trdp_model.specs.Events.{EventModel}
@@ -10,11 +10,11 @@ use Rattle.trdp_script.specs.ScriptText.{event_text, events_of}
 use Rattle.trdp_model.specs.NodeModels.{nodes_after}
 use Rattle.trdp_script.specs.declared.fault.LineFault.{LineFault}
 
--- memory may be wanting for an event, or for the text of what it gives
+-- memory may be needed for an event, or for the text of what it gives
 abbrev pub EventMayWant : NodeModel → EventModel → Type 0
 EventMayWant node event = MayTakeMemory node event ⊎ (event_text node event ≢ [])
 
--- memory may be wanting for the bytes that a line carries, or for its event: never for a line that
+-- memory may be needed for the bytes that a line carries, or for its event: never for a line that
 -- is skipped, nor for one with a fault
 abbrev pub LineMayWant : NodeModel → Result (Option EventModel) LineFault → Type 0
 LineMayWant node (Ok (Some event)) =
@@ -22,13 +22,13 @@ LineMayWant node (Ok (Some event)) =
 LineMayWant node (Ok None) = ⊥
 LineMayWant node (Err fault) = ⊥
 
--- the line is there, and memory may be wanting for it
+-- the line is there, and memory may be needed for it
 abbrev pub IsThereAndMayWant : NodeModel → Option (List ℕ) → Type 0
 IsThereAndMayWant node (Some line) = LineMayWant node (line_of line)
 IsThereAndMayWant node None = ⊥
 
--- behind the first lines, so many, which the node has taken, there is one for which memory may be
--- wanting
+-- after the first `count` lines, which the node has taken, there is one for which memory may be
+-- needed
 abbrev pub NextMayWant : NodeModel → List (List ℕ) → ℕ → Type 0
 NextMayWant node lines count =
     IsThereAndMayWant (nodes_after node (events_of (take count lines))) (slice_get lines count)

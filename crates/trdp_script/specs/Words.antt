@@ -18,8 +18,9 @@ use Rattle.trdp_base.specs.declared.session.SessionId.{SessionId}
 use Rattle.trdp_script.specs.declared.fault.LineFault.{LineFault}
 use Rattle.trdp_script.specs.declared.fault.LineFault.TheVariants.{BadWord, OutOfMemory}
 
--- the words of a line, which stand apart by exactly one space; two spaces have an empty word
--- between them
+-- the words of a line, with exactly one space between two of them; two adjacent spaces have an
+-- empty word between them
+-- rule: line.words
 unfoldable pub words_of : List ℕ → List (List ℕ)
 words_of line = slice_split (λ byte. byte == 32) line
 
@@ -28,7 +29,7 @@ unfoldable pub first_word : List (List ℕ) → List ℕ
 first_word [] = []
 first_word (word ∷ words) = word
 
--- the words behind the first
+-- the words after the first
 unfoldable pub other_words : List (List ℕ) → List (List ℕ)
 other_words [] = []
 other_words (word ∷ words) = words
@@ -37,27 +38,29 @@ other_words (word ∷ words) = words
 abbrev pub third_word : List (List ℕ) → List ℕ
 third_word words = first_word (other_words (other_words words))
 
--- the words are at least and at most so many
+-- the number of words is in this range
 abbrev pub are_between : ℕ → ℕ → List (List ℕ) → Bool
 are_between least most words = nat_le least (length words) && nat_le (length words) most
 
--- the value, if it may stand here and the word is its written form
+-- the value, if it is in range and the word is its written form
 unfoldable pub if_written : {A : Type 0} → (A → List ℕ) → List ℕ → Bool → A → Option A
 if_written text_of word may_stand value =
     if may_stand && bytes_eq (text_of value) word then Some value else None
 
 -- the number of at most `max` whose written form the word is
+-- rule: line.number
 unfoldable pub number_of_word : ℕ → List ℕ → Option ℕ
 number_of_word max word =
     let number = digits_value 10 word in
     if_written text_of_number word (nat_le number max) number
 
 -- the number of at most `max` whose written form the last word is; 0 where that is left out
+-- rule: call.retries
 unfoldable pub last_number : ℕ → List (List ℕ) → Option ℕ
 last_number max [] = Some 0
 last_number max (word ∷ words) = number_of_word max word
 
--- the number that digits show, below 0 behind `-`
+-- the number that digits show, below 0 after `-`
 unfoldable pub status_shown : List ℕ → ℤ
 status_shown [] = pos 0
 status_shown (byte ∷ bytes) =
@@ -129,7 +132,8 @@ uri_of_word word =
     let bytes = bytes_shown word in
     if_written text_of_hex word (are_bytes bytes && is_uri bytes) bytes
 
--- whether the word is the first of two, if it is one of them
+-- true where the word is the first of these, false where it is the second; none where it is
+-- neither
 unfoldable pub choice_of_word : List ℕ → List ℕ → List ℕ → Option Bool
 choice_of_word first second word =
     if bytes_eq word first then Some true else (if bytes_eq word second then Some false else None)
@@ -141,7 +145,8 @@ any_or_number max word =
     then Some None
     else option_map (λ number. Some number) (number_of_word max word)
 
--- why the bytes of a word weren't read: it isn't the written form of any, or else memory ran out
+-- why the bytes of a word weren't read: it isn't the written form of any, or else an allocation
+-- failed
 abbrev pub IsBytesFault : Option (List ℕ) → LineFault → Type 0
 IsBytesFault None fault = fault ≡ BadWord
 IsBytesFault (Some bytes) fault = fault ≡ OutOfMemory

@@ -3,22 +3,22 @@
 use std::alloc::AllocError;
 use thiserror::Error;
 
-/// Why a line says nothing that can be done, first the first that applies (profile).
+/// Why a line has no event and no question: the first of these that applies (profile).
 #[derive(Clone, Copy, Debug, PartialEq, Eq, Error)]
 pub enum LineFault {
     /// The line has more than [`LINE_MAX`](crate::LINE_MAX) bytes.
     #[error("the line is too long")]
     TooLong = 1,
-    /// The first word, or the third after `call`, is missing or isn't known.
+    /// The first word is missing or unknown; or the third is, after `call`.
     #[error("the line begins with no known word")]
     Unknown = 2,
-    /// The line has another number of words than its first words ask for.
+    /// The number of words isn't that of the line's form.
     #[error("the line has too few words or too many")]
     Count = 3,
     /// A word isn't the written form of a value in its range.
     #[error("a word of the line can't be read or is out of its range")]
     BadWord = 4,
-    /// The line is good and carries bytes, for which there is no memory.
+    /// The line is good and carries bytes, and an allocation for them fails.
     #[error("there is no memory for the bytes of the line")]
     OutOfMemory = 5,
 }
@@ -37,16 +37,16 @@ impl From<AllocError> for LineFault {
 /// Why a script ends before the end of its input.
 #[derive(Clone, Copy, Debug, PartialEq, Eq, Error)]
 pub enum ScriptFault {
-    /// The line of that number, counted from 1 over all lines, is no good.
+    /// The line of that number has that fault. Lines are counted from 1, skipped ones included.
     #[error("line {0} of the script: {1}")]
     Line(u64, LineFault),
-    /// The script can't be read further.
+    /// The reader fails, or was read [`READS_MAX`](crate::READS_MAX) times.
     #[error("the script can't be read further")]
     Read,
-    /// The output can't be written.
+    /// The writer fails, or was interrupted [`WRITE_TRIES`](crate::WRITE_TRIES) times in a row.
     #[error("the output can't be written")]
     Write,
-    /// Memory was refused.
+    /// An allocation fails.
     #[error("there is no memory for the script")]
     OutOfMemory,
 }

@@ -1,4 +1,4 @@
-//! The values that words are the written forms of.
+//! The values that words are the written forms of; None where a word is that of no such value.
 
 ghost use Rattle.std.specs.Prelude.{◌≡◌, ℕ, ℤ, List, ◌<◌, ◌≤◌, ◌^◌, ◌-◌, IfErr, IfSome};
 ghost use Rattle.std.specs.Prelude.{All, FitsSigned, OnOk};
@@ -102,7 +102,7 @@ impl Words<'_, '_> {
         ip_of(self.next_word())
     }
 
-    /// The place that the next word is.
+    /// The socket address that the next word is.
     pub(crate) fn next_place(&mut self) -> Option<Place>
         ensures value { result ≡ place_of_word (first_word (words_left self.old)) }
         ensures rest { words_left self.new ≡ other_words (words_left self.old) }
@@ -134,7 +134,7 @@ impl Words<'_, '_> {
         session_of(self.next_word())
     }
 
-    /// Whether the next word is the first of two, if it is one of them.
+    /// True where the next word is `first`, false where it is `second`; None where it is neither.
     pub(crate) fn next_choice(&mut self, first: &[u8], second: &[u8]) -> Option<bool>
         ensures value { result
             ≡ choice_of_word first.now second.now (first_word (words_left self.old)) }
@@ -146,8 +146,8 @@ impl Words<'_, '_> {
     /// Reads the bytes that the next word is into the buffer, in place of what it holds.
     ///
     /// # Errors
-    /// `BadWord` where the word isn't the written form of bytes, which is found before memory is
-    /// taken; `OutOfMemory` where the buffer lacks room for them, and can't have it.
+    /// `BadWord` where the word isn't the written form of bytes, which is found before any
+    /// allocation; `OutOfMemory` where the buffer lacks room for them and can't grow.
     pub(crate) fn next_bytes(&mut self, buffer: &mut Vec<u8>) -> Result<(), LineFault>
         ensures value { OnOk result
             (bytes_of_word (first_word (words_left self.old)) ≡ Some buffer.new.items) }
@@ -197,7 +197,7 @@ fn ip_of(word: &[u8]) -> Option<Ip>
     }
 }
 
-/// The place that a word is.
+/// The socket address that a word is.
 fn place_of(word: &[u8]) -> Option<Place>
     ensures value { result ≡ place_of_word word.now }
     ensures written { IfSome result (λ place. word.now ≡ text_of_place place) }
@@ -247,7 +247,7 @@ fn session_of(word: &[u8]) -> Option<SessionId>
     }
 }
 
-/// Whether a word is the first of two, if it is one of them.
+/// True where a word is `first`, false where it is `second`; None where it is neither.
 #[tactic(auto, unfolding(crate::specs::Words::choice_of_word))]
 fn choice_of(word: &[u8], first: &[u8], second: &[u8]) -> Option<bool>
     ensures { result ≡ choice_of_word first.now second.now word.now }

@@ -1,4 +1,4 @@
-//! The forms that a line can have: each is told by a word of its own, and has a reader.
+//! The forms that a line can have: each has a word of its own, and a reader.
 
 ghost use Rattle.trdp_script.specs.Forms.{forms};
 ghost use Rattle.trdp_script.specs.FormWords.{form_of_call};
@@ -22,10 +22,10 @@ use crate::read_session::{
 use crate::words::{CALL, Words};
 use trdp_engine::{Event, Protocol};
 
-/// Reads the words of a line, whose first tells its form, or where that is `call`, the third.
+/// Reads the words of a line. The first word selects the form; where it is `call`, the third does.
 ///
 /// # Errors
-/// `Unknown` where no form is told; else as the reader of the form.
+/// `Unknown` where no form is selected; else as the reader of the form.
 #[tactic(auto, unfolding(crate::specs::Lines::say_among, crate::specs::Forms::forms, crate::specs::PortLines::operator_forms))]
 pub(crate) fn read_words<'b>(
     buffer: &'b mut Vec<u8>,
@@ -92,7 +92,7 @@ fn read_call<'b>(buffer: &'b mut Vec<u8>, words: Words<'_, '_>) -> Result<Event<
     }
 }
 
-/// Whether a word is that one.
+/// Whether a word is this one.
 fn is_word(word: &[u8], other: &[u8]) -> bool
     ensures { result ≡ bytes_eq word.now other.now }
 {

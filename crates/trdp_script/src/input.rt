@@ -17,8 +17,8 @@ pub fn without_return(line: &[u8]) -> &[u8]
     }
 }
 
-/// Reads the next bytes to the front of `piece`, and answers how many these are: 0 at the end of
-/// the input.
+/// Reads the next bytes to the front of `piece`, and returns their number: 0 at the end of the
+/// input.
 ///
 /// # Errors
 /// `Read` where the reader fails.

@@ -1,12 +1,14 @@
-//! The text form of a node: lines that say events, in scripts or one in a datagram, and lines that
-//! tell of records.
+//! The text form of a node: lines that say events, in a script or one in a datagram, and the lines
+//! of its records.
 //!
-//! [`run_script`] plays a script over a node that it opens: it reads lines, lets the node take
-//! their events, and writes what each slot gets. [`read_line`] reads what one line says,
-//! [`read_control`] what one says that came in a datagram to a slot's control port, and
-//! [`print_record`] writes a record as its line. Whoever reads line after line keeps a buffer for
-//! their bytes: [`read_event`] and [`read_control_event`] read the same over it. The lines of the
-//! operator carry none: [`read_operator`] reads an event or a [`Question`].
+//! - [`run_script`] plays a script over a node that it opens: it reads lines, lets the node take
+//!   their events, and writes what each slot gets.
+//! - [`read_line`] reads one line into a [`Line`]; [`read_control`] reads one that came in a
+//!   datagram to a slot's control port. [`read_event`] and [`read_control_event`] do the same over
+//!   a buffer that is used from line to line.
+//! - [`read_operator`] reads a line of the operator, which carries no bytes: an event or a
+//!   [`Question`].
+//! - [`print_record`] appends the line of a record.
 //!
 //! ```text
 //! call 0 publish 100 0 100000 0 0 0 10.0.0.2:17224    answers  0 handle 1
@@ -14,16 +16,16 @@
 //! moment 100000                                       sends    0 send pd 10.0.0.2:17224 0000..
 //! ```
 //!
-//! A line has one of a list of forms (`specs/Forms`), each its words and the event that they mean;
-//! docs/SCRIPT.md has them all.
+//! A line has one of a list of forms (`specs/Forms`): the words of each, and the event that they
+//! mean. docs/SCRIPT.md lists them all.
 //!
-//! What no contract can say is that memory is there and that the outside works: a `read_line` that
-//! answers want of memory at each line that carries bytes meets its contract, and so does a
-//! `run_script` that answers it before it reads anything. A reader that always fails, and so a
-//! `read_piece` that always answers `Read`, meets the contracts too, since a reader may always
-//! fail; so does a writer that always fails, and a `write_whole` that always answers `Write`.
-//! `trdp_node_tests` shows that both work: with ample memory the lines are read and the scripts
-//! played.
+//! `trdp_daemon` reads and prints these lines at the ports of a node, and `trdp_program` plays
+//! scripts.
+//!
+//! What a line means, and which fault it has, is proved for every line. What a run of a script
+//! plays and writes is proved for every reader and writer. A reader that always fails meets these
+//! contracts, and so does a writer that does: `trdp_node_tests` shows that with ample memory lines
+//! are read and scripts are played.
 #![tactic(auto)]
 
 mod fault;

@@ -20,8 +20,8 @@ pub const LINE_MAX: usize = 140_000;
 /// place of what that held: the event that it says, or the first of its faults (profile). None
 /// where the line is skipped: it is empty or begins with `#`, and isn't too long.
 ///
-/// Only a line that carries bytes takes memory, where the buffer lacks room for them; so a buffer
-/// that is used again from line to line soon takes none. Behind a fault the buffer may hold
+/// Only a line that carries bytes allocates, and only where the buffer lacks room for them; so a
+/// buffer that is used from line to line soon allocates no more. After a fault the buffer may hold
 /// anything.
 ///
 /// # Errors
@@ -40,7 +40,7 @@ pub fn read_event<'b>(buffer: &'b mut Vec<u8>, text: &[u8]) -> Result<Option<Eve
     }
 }
 
-/// Cuts a line into its words, and answers true, unless the line is skipped.
+/// Cuts a line into its words, and returns true; returns false for a line that is skipped.
 ///
 /// # Errors
 /// `TooLong`.

@@ -5,16 +5,16 @@ ghost use Rattle.trdp_script.specs.PortLines.{question_of};
 
 use trdp_engine::Event;
 
-/// What the operator can ask. A question is no event, and its answer changes nothing.
+/// What the operator can ask (profile). A question is no event, and its answer changes nothing.
 #[derive(Clone, Copy, Debug, PartialEq, Eq)]
 pub enum Question {
     /// What the daemon has counted since it was made.
     Totals,
-    /// What each slot holds and may hold, and how long ago it was heard.
+    /// What each slot holds and may hold, and how long ago its latest line came.
     Slots,
 }
 
-/// What a line of the operator says that isn't skipped.
+/// What a line of the operator says that isn't skipped (profile).
 #[derive(Clone, Copy, Debug)]
 pub enum OperatorLine<'b> {
     /// An event, for the node to take.

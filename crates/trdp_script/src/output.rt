@@ -1,4 +1,4 @@
-//! The output of a script, collected so that one write takes many lines.
+//! The output of a script, collected so that one write holds many lines.
 
 ghost use Rattle.std.specs.Prelude.{◌≡◌, ◌<◌, ◌≤◌, [], length, take, vec_len};
 ghost use Rattle.std.specs.Prelude.{OnOk, OnErr, IfOk, IfErr};
@@ -13,11 +13,11 @@ use std::io::{ErrorKind, Write};
 /// How many bytes of output are collected before they are written.
 const OUTPUT_FULL: usize = 65_536;
 
-/// Room for them and for the text of a moment that many objects act at; there may be more.
+/// Room for these bytes and for the text of a moment at which many objects act; it may grow.
 const OUTPUT_ROOM: usize = 2 * OUTPUT_FULL;
 
-/// How many tries in a row a writer may be interrupted at, and take nothing, before that is a
-/// `Write` fault (profile).
+/// The number of tries in a row, each of them interrupted, after which a write is a `Write` fault
+/// (profile).
 pub const WRITE_TRIES: u32 = 1_000;
 
 /// A list with room for the output that is collected.
@@ -27,7 +27,7 @@ pub fn output_buffer(alloc: Global) -> Result<Vec<u8>, AllocError>
     Vec::with_capacity(alloc, OUTPUT_ROOM)
 }
 
-/// Writes what was collected, once there is so much of it: less than that stays.
+/// Writes what was collected, once that is `OUTPUT_FULL` bytes or more: less stays.
 ///
 /// # Errors
 /// `Write` where the writer fails; it has taken a front of the output then.
@@ -65,8 +65,7 @@ pub fn flush<W: Write>(output: &mut Vec<u8>, writer: &mut W) -> Result<(), Scrip
 /// Writes all of the bytes. An error leaves a front of them written.
 ///
 /// # Errors
-/// `Write` where the writer fails; it has failed too where it was interrupted [`WRITE_TRIES`] times
-/// in a row.
+/// `Write` where the writer fails, or was interrupted [`WRITE_TRIES`] times in a row.
 pub fn write_whole<W: Write>(writer: &mut W, bytes: &[u8]) -> Result<(), ScriptFault>
     ensures ok { OnOk result (Appends (W.contents writer.old) (W.contents writer.new) bytes.now) }
     ensures err { OnErr result
@@ -84,10 +83,11 @@ pub fn write_whole<W: Write>(writer: &mut W, bytes: &[u8]) -> Result<(), ScriptF
     Ok(())
 }
 
-/// Writes a front of the bytes that isn't empty, and answers its length.
+/// Writes a front of the bytes that isn't empty, and returns its length.
 ///
 /// # Errors
-/// `Write` where the writer fails, or was interrupted so often; it has taken nothing then.
+/// `Write` where the writer fails, or was interrupted [`WRITE_TRIES`] times in a row; it has taken
+/// nothing then.
 fn write_some<W: Write>(writer: &mut W, bytes: &[u8]) -> Result<usize, ScriptFault>
     ensures some { IfOk result (λ count. 0 < count) }
     ensures within { IfOk result (λ count. count ≤ length bytes.now) }

@@ -67,7 +67,7 @@ impl Line {
 /// Reads a line, which comes without its end: what it says, or the first of its faults (profile).
 ///
 /// A line that is empty or begins with `#` is skipped, unless it is too long. Only a line that
-/// carries bytes takes memory.
+/// carries bytes allocates.
 ///
 /// # Errors
 /// Every [`LineFault`], in their order. `OutOfMemory` comes only where the line carries bytes, and

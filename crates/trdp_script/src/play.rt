@@ -1,4 +1,4 @@
-//! An event's way through the node, and the text of what the node gives.
+//! An event's way through the node, and the text of the records.
 
 ghost use Rattle.std.specs.Prelude.{◌≡◌, ◌≢◌, ◌++◌, [], OnOk, OnErr};
 ghost use Rattle.std.specs.List.{flat_map};
@@ -14,12 +14,12 @@ use crate::print::{print_fault, print_record};
 use std::alloc::AllocError;
 use trdp_engine::{Event, Node, NodeFault, Outbox};
 
-/// Gives the node an event, and appends the text of what it gives: the records slot by slot, slots
-/// rising, each slot's in their order, or the line of the event's fault (profile).
+/// Lets the node take an event, and appends the text of its records: slot by slot, slots rising,
+/// each slot's in their order; or the line of the event's fault (profile).
 ///
 /// # Errors
-/// `AllocError` where memory for the event or for its text was refused; the list's items are as
-/// before. An event that takes none and gives no text is always played.
+/// `AllocError` where an allocation for the event or for its text fails; the list's items are as
+/// before. An event that needs no memory and gives no text is always played.
 pub fn play(
     node: &mut Node,
     event: &Event<'_>,

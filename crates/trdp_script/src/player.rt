@@ -18,6 +18,7 @@ use trdp_engine::{Node, Outbox};
 /// The node of a script, with the lists that are used again from event to event.
 #[derive(Drop)]
 pub(crate) struct Player {
+    /// The node.
     pub(crate) node: Node,
     /// The bytes that a line carries.
     bytes: Vec<u8>,

@@ -1,5 +1,5 @@
-//! Lines that come in datagrams, one in each: at the control port of a slot the calls of its
-//! application, and at the operator's port what concerns the whole node.
+//! Lines that come in datagrams, one in each. At the control port of a slot they are the calls of
+//! its application; at the operator's port, what concerns the whole node.
 
 ghost use Rattle.std.specs.Prelude.{◌≡◌, ◌≢◌, IfOk, IfErr, Ok, Err, Some, option_map};
 ghost use Rattle.trdp_script.specs.Lines.{Reads};
@@ -20,9 +20,9 @@ use trdp_engine::Event;
 /// Reads a datagram that came to the control port of a slot: the line of a call by the slot's
 /// application, without `call SLOT ` (profile).
 ///
-/// An end of line is dropped: a newline, and one carriage return before it. A line that is
-/// empty or begins with `#` is skipped, however long it is: it has no event. The event's bytes lie
-/// in the buffer, as those of [`read_event`](crate::read_event).
+/// An end of line is dropped: a newline, and one carriage return before it. A line that is empty
+/// or begins with `#` is skipped, however long it is: it has no event. The event's bytes are in
+/// the buffer, as those of [`read_event`](crate::read_event).
 ///
 /// # Errors
 /// Every [`LineFault`] of the line with `call SLOT ` before it, in their order. `OutOfMemory` comes
@@ -61,8 +61,8 @@ pub fn read_control_event<'b>(
 /// empty or begins with `#` is skipped, unless it is too long: it says nothing.
 ///
 /// # Errors
-/// `TooLong`, `Unknown` at any other first word, `Count` and `BadWord`, in their order. None of
-/// these lines carries bytes, so that none can want memory.
+/// `TooLong`, `Unknown` at any other first word, `Count` and `BadWord`, in their order; never
+/// `OutOfMemory`, since none of these lines carries bytes.
 #[tactic(auto, unfolding(crate::specs::PortLines::operator_line_of))]
 pub fn read_operator<'b>(bytes: &[u8]) -> Result<Option<OperatorLine<'b>>, LineFault>
     ensures line { IfOk result (λ line.

@@ -1,4 +1,4 @@
-//! The lines that tell of a node's records and faults.
+//! The lines of a node's records and faults.
 
 ghost use Rattle.std.specs.Prelude.{◌≡◌, ◌≤◌, ◌+◌, ◌*◌, ◌++◌, length, OnOk, OnErr};
 ghost use Rattle.std.specs.Prelude.{codes, vec_len, vec_capacity};
@@ -21,20 +21,20 @@ use trdp_base::{NUMBER_LENGTH, Place};
 use trdp_engine::{Answer, Indication, NodeFault, Protocol, Record, What};
 use trdp_pd::Peek;
 
-/// Enough bytes for what a record says, beside the digits of its bytes: the longest is a request
+/// Room in bytes for what a record says, without the digits of its bytes: the longest is a request
 /// that came in.
 const CONTENT_ROOM: usize = ASKED_ROOM;
 
-/// Enough bytes for a whole line, beside the digits of its bytes.
+/// Room in bytes for a whole line, without the digits of its bytes.
 const LINE_ROOM: usize = NUMBER_LENGTH + CONTENT_ROOM + 1;
 
 /// Appends a record's line: the slot's number, a space, what the record says and a newline
 /// (profile).
 ///
-/// Room for the whole line is taken first.
+/// Room for the whole line is reserved first.
 ///
 /// # Errors
-/// `AllocError` where that room is refused; the list's items are as before.
+/// `AllocError` where that fails; the list's items are as before.
 #[tactic(auto, unfolding(crate::specs::RecordText::text_of_record))]
 pub fn print_record(text: &mut Vec<u8>, record: &Record<'_>) -> Result<(), AllocError>
     ensures ok { OnOk result (text.new.items
@@ -49,7 +49,7 @@ pub fn print_record(text: &mut Vec<u8>, record: &Record<'_>) -> Result<(), Alloc
     Ok(())
 }
 
-/// Appends the one line of an event that the node took no notice of.
+/// Appends the line of an event that the node rejected: `fault` and the fault's name (profile).
 ///
 /// # Errors
 /// `AllocError` where there is no room for it; the list's items are as before.
@@ -106,7 +106,7 @@ fn put_content(text: &mut Vec<u8>, what: &What<'_>)
     }
 }
 
-/// Appends what a call came to, with a space before it, to a list that has room for it.
+/// Appends the result of a call, with a space before it, to a list that has room for it.
 #[tactic(auto, unfolding(crate::specs::RecordText::text_of_answer))]
 fn put_answer(text: &mut Vec<u8>, answer: Answer<'_>)
     requires room { vec_len text.old
@@ -148,7 +148,7 @@ fn put_peek(text: &mut Vec<u8>, peek: Peek<'_>)
     put_hex(text, peek.bytes);
 }
 
-/// Appends what a node tells of its own accord, with a space before it, to a list that has room
+/// Appends what a node reports of its own accord, with a space before it, to a list that has room
 /// for it.
 #[tactic(auto, unfolding(crate::specs::RecordText::text_of_indication))]
 fn put_indication(text: &mut Vec<u8>, indication: &Indication<'_>)

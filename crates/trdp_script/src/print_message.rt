@@ -15,13 +15,13 @@ use crate::print_words::{
 use trdp_base::{NUMBER_LENGTH, PLACE_LENGTH, SESSION_LENGTH, STATUS_LENGTH, SessionId};
 use trdp_engine::{Message, Reply};
 
-/// Enough bytes for a message, beside the digits of its payload.
+/// Room in bytes for a message, without the digits of its payload.
 const MESSAGE_ROOM: usize = PLACE_LENGTH + NUMBER_LENGTH + 2 * URI_ROOM + 6;
 
-/// Enough bytes for an answer to a request, beside the digits of its payload.
+/// Room in bytes for an answer to a request, without the digits of its payload.
 const REPLY_ROOM: usize = PLACE_LENGTH + STATUS_LENGTH + NUMBER_LENGTH + 8;
 
-/// Enough bytes for a request that a listener heard, beside the digits of its payload.
+/// Room in bytes for a request that a listener heard, without the digits of its payload.
 pub(crate) const ASKED_ROOM: usize = 9 + 2 * NUMBER_LENGTH + SESSION_LENGTH + MESSAGE_ROOM;
 
 /// Appends a message that came in, with a space before it, to a list that has room for it.
@@ -47,8 +47,8 @@ pub(crate) fn put_message(text: &mut Vec<u8>, message: &Message<'_>)
     put_hex(text, message.payload);
 }
 
-/// Appends that a listener heard a request, which the replier is to answer, with a space before it,
-/// to a list that has room for it.
+/// Appends a request that a listener heard and that the replier is to answer, with a space before
+/// it, to a list that has room for it.
 #[tactic(auto, unfolding(crate::specs::RecordText::text_of_indication))]
 pub(crate) fn put_asked(
     text: &mut Vec<u8>,

@@ -18,7 +18,7 @@ use trdp_base::{
     push_hex, push_number, push_place, push_session, push_status,
 };
 
-/// Enough bytes for the written form of a URI.
+/// Room in bytes for the written form of a URI.
 pub(crate) const URI_ROOM: usize = 1 + 2 * URI_LIMIT;
 
 /// Appends bytes to a list that has room for them.
@@ -62,7 +62,7 @@ pub(crate) fn put_handle(text: &mut Vec<u8>, words: &[u8], handle: u32)
     put_number(text, u64::from(handle));
 }
 
-/// Appends the written form of a place to a list that has room for the longest.
+/// Appends the written form of a socket address to a list that has room for the longest.
 pub(crate) fn put_place(text: &mut Vec<u8>, place: Place)
     requires room { vec_len text.old + PLACE_LENGTH ≤ vec_capacity text.old }
     ensures items { text.new.items ≡ text.old.items ++ text_of_place place }

@@ -148,7 +148,7 @@ pub(crate) fn read_subscribe<'b>(mut words: Words<'_, '_>) -> Result<Event<'b>, 
     })
 }
 
-/// What a time-out does to the value.
+/// What a time-out does to the value: `zero` or `keep`.
 fn behaviour(zero: bool) -> Behaviour
     ensures { result ≡ behaviour_of zero }
 {

@@ -1,4 +1,4 @@
-//! What the words of a call for messages say that need no answer.
+//! What the words of a call for messages without an answer say.
 
 ghost use Rattle.trdp_script.specs.Forms.{listen_form, unlisten_form, notify_form};
 ghost use Rattle.trdp_script.specs.Lines.{ReadsEvent, form_says};

@@ -13,8 +13,8 @@ use trdp_base::Topo;
 use trdp_engine::{Call, Event};
 use trdp_md::CallerTerms;
 
-/// `call SLOT request COMID SESSION EXPECTED TIME SOURCEURI DESTURI ETB OPTRN TO HEX
-/// [RETRIES]`: the number at the end is read before memory is taken for the bytes.
+/// `call SLOT request COMID SESSION EXPECTED TIME SOURCEURI DESTURI ETB OPTRN TO HEX [RETRIES]`:
+/// the number at the end is read before any allocation for the bytes.
 #[tactic(auto, unfolding(crate::specs::Lines::form_says))]
 pub(crate) fn read_request<'b>(
     buffer: &'b mut Vec<u8>,

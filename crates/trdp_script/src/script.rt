@@ -1,4 +1,4 @@
-//! A script's way through the node: its lines in, the text of its records out.
+//! A script's way through the node: its lines in, the text of the records out.
 
 ghost use Rattle.std.specs.Prelude.{◌≡◌, ◌<◌, ◌≤◌, ◌+◌, ◌^◌, ◌++◌, ◌∷◌, ℕ, List, [], length};
 ghost use Rattle.std.specs.Prelude.{Option, Some, Ok, Err, true, false, vec_capacity, vec_len};
@@ -22,30 +22,30 @@ use std::alloc::{AllocError, Global};
 use std::io::{Read, Write};
 use trdp_dataset::NodeConfig;
 
-/// How many reads of its input a script makes at most (profile).
+/// The most reads that a script makes of its input (profile).
 pub const READS_MAX: u32 = 4_294_967_295;
 
 const _: () = prove!(READS_MAX == 4_294_967_295);
 
-/// How many bytes are read at once.
+/// The bytes of one read at most.
 const PIECE_ROOM: usize = 65_536;
 
-/// Room for the bytes of a line before its newline: the longest line and a carriage return. One
-/// byte more tells a line that is too long, however it goes on.
+/// Room for the bytes of a line before its newline: the longest line and a carriage return. With
+/// one byte more the line is too long, however it goes on.
 const LINE_ROOM: usize = LINE_MAX + 1;
 
-/// Plays a script from the reader over a node of the configuration, and writes what the node gives
-/// to the writer: for each event its records slot by slot, slots rising, each slot's in their
-/// order, or the line `fault NAME` of an event that the node took no notice of (profile).
+/// Plays a script from the reader over a node of the configuration, and writes to the writer what
+/// the node gives: for each event its records, slot by slot, slots rising, each slot's in their
+/// order. An event that the node rejected gives the line `fault NAME` (profile).
 ///
 /// Lines end with a newline, or with a carriage return and a newline; the last may lack its end.
 /// Output is collected, and written once there are 65,536 bytes of it, before more is read, and at
 /// the end.
 ///
 /// # Errors
-/// `Line` at the first line with a fault, and `OutOfMemory` before anything is read or at a line
-/// for which there is no memory: the lines before it were played. `Read` where the reader fails or
-/// after 4,294,967,295 reads ([`READS_MAX`]): the lines whose end had been read were played.
+/// `Line` at the first line with a fault, and `OutOfMemory` where an allocation fails, before
+/// anything is read or at a line: the lines before it were played. `Read` where the reader fails
+/// or after 4,294,967,295 reads ([`READS_MAX`]): the lines whose end had been read were played.
 /// `Write` where the writer fails or is interrupted 1,000 times in a row
 /// ([`WRITE_TRIES`](crate::WRITE_TRIES)): a front of the output was written.
 pub fn run_script<R: Read, W: Write>(
@@ -67,6 +67,7 @@ pub fn run_script<R: Read, W: Write>(
 /// A script on its way.
 #[derive(Drop)]
 struct Script {
+    /// The node, and the text that is still to be written.
     player: Player,
     /// The bytes since the last newline.
     line: Vec<u8>,
@@ -116,8 +117,8 @@ impl Script {
         }
     }
 
-    /// Reads and plays to the end of the input, by way of the piece. Output may be left to write,
-    /// but for `Write`.
+    /// Reads and plays to the end of the input, piece by piece. Output may be left to write, but
+    /// for `Write`.
     fn run<R: Read, W: Write>(
         &mut self,
         piece: &mut [u8],
@@ -149,8 +150,9 @@ impl Script {
         Err(ScriptFault::Read)
     }
 
-    /// Reads the next bytes of the input, and answers how many these are: 0 at its end. Nothing is
-    /// left to write meanwhile, so that whoever waits for a line's answer before the next gets it.
+    /// Reads the next bytes of the input, and returns their number: 0 at its end. Nothing is left
+    /// to write meanwhile, so an application that waits for a line's answer before its next line
+    /// gets it.
     fn read_piece<R: Read>(&self, reader: &mut R, piece: &mut [u8]) -> Result<usize, ScriptFault>
         requires room { 0 < length piece.old }
         requires written { self.now.player.output.items ≡ [] }
@@ -181,7 +183,7 @@ impl Script {
         flush(&mut self.player.output, writer)
     }
 
-    /// Plays the lines that end in these bytes, and keeps the bytes behind the last newline.
+    /// Plays the lines that end in these bytes, and keeps the bytes after the last newline.
     fn take_piece<W: Write>(&mut self, piece: &[u8], writer: &mut W) -> Result<(), ScriptFault>
         requires sound { IsSound self.old }
         requires number { self.old.number + length piece.now < 2 ^ 64 }
@@ -227,7 +229,7 @@ impl Script {
         }
     }
 
-    /// Plays the line that is these bytes, of which none was kept, and a newline.
+    /// Plays the line that is these bytes and a newline, where none of its bytes was kept.
     fn take_whole<W: Write>(&mut self, bytes: &[u8], writer: &mut W) -> Result<(), ScriptFault>
         requires sound { IsSound self.old }
         requires begun { vec_len self.old.line ≡ 0 }
@@ -267,7 +269,7 @@ impl Script {
         Ok(())
     }
 
-    /// Plays the line that has begun, behind which a newline stands.
+    /// Plays the line that has begun, which a newline follows.
     fn end_line<W: Write>(&mut self, writer: &mut W) -> Result<(), ScriptFault>
         requires sound { IsSound self.old }
         requires number { self.old.number + 1 < 2 ^ 64 }
@@ -317,7 +319,7 @@ impl Script {
     }
 }
 
-/// Whether the output couldn't be written.
+/// Whether the output can't be written.
 fn is_write_fault(end: &Result<(), ScriptFault>) -> bool
     ensures write { result ≡ true → end.now ≡ Err ScriptFault.Write }
     ensures other { result ≡ false → end.now ≡ Err ScriptFault.Write → ⊥ }
@@ -325,7 +327,7 @@ fn is_write_fault(end: &Result<(), ScriptFault>) -> bool
     matches!(end, Err(ScriptFault::Write))
 }
 
-/// So many zeros.
+/// A list of `len` zeros.
 fn zeros(alloc: Global, len: usize) -> Result<Vec<u8>, AllocError>
     ensures { IfOk result (λ bytes. length bytes.items ≡ len) }
 {

@@ -1,4 +1,4 @@
-//! The words of a line, which stand apart by exactly one space.
+//! The words of a line, with exactly one space between two of them.
 
 ghost use Rattle.std.specs.Prelude.{◌≡◌, ◌∷◌, ◌++◌, [], take, true, false, OnOk, OnErr, IfErr};
 ghost use Rattle.trdp_script.specs.Words.{words_of, first_word, other_words, third_word};
@@ -13,14 +13,15 @@ use arrayvec::ArrayVec;
 /// The word with which a call begins.
 pub(crate) const CALL: &[u8] = b"call";
 
-/// One word more than any form's line has: a line with so many has too many, whatever follows.
+/// One more than the words of any form's line: a line with that many words has too many, whatever
+/// follows.
 pub(crate) const WORDS_ROOM: usize = 15;
 
 /// The first words of a line.
 pub(crate) type CutWords<'a> = ArrayVec<&'a [u8], WORDS_ROOM>;
 
-/// Adds the words of a text, one more than it has spaces, as far as there is room: between two
-/// spaces stands an empty word.
+/// Adds the words of a text, one more than it has spaces, as far as there is room. Between two
+/// adjacent spaces is an empty word.
 pub(crate) fn cut_words<'a>(words: &mut CutWords<'a>, text: &'a [u8])
     ensures { words_at words.new.items
         ≡ take WORDS_ROOM (words_at words.old.items ++ words_of text.now) }
@@ -43,6 +44,7 @@ pub(crate) fn cut_words<'a>(words: &mut CutWords<'a>, text: &'a [u8])
 /// The words of a line that are still to be read, from the first to the last.
 #[derive(Clone, Copy)]
 pub(crate) struct Words<'w, 'a> {
+    /// Those words; empty where all were read.
     left: &'w [&'a [u8]],
 }
 
@@ -56,7 +58,7 @@ impl<'w, 'a> Words<'w, 'a> {
         }
     }
 
-    /// Finds so many words still to be read.
+    /// Checks that `count` words are left.
     ///
     /// # Errors
     /// `Count` at any other number of words.
@@ -68,7 +70,7 @@ impl<'w, 'a> Words<'w, 'a> {
         self.expect_between(count, count)
     }
 
-    /// Finds at least and at most so many words still to be read.
+    /// Checks that the number of words left is in this range.
     ///
     /// # Errors
     /// `Count` at any other number of words.

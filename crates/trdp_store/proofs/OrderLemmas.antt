@@ -1,4 +1,4 @@
--- Lemmas on the schedule, whose orders are those of the objects that are to fire.
+-- Lemmas on the schedule, whose orders are those of the objects that will fire.
 pub mod Counts
 pub mod Grown
 pub mod Added

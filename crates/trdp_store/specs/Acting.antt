@@ -1,4 +1,4 @@
--- What it takes and what it makes that one object of the table acts, and then several of one slot.
+-- What an act of one object of the table needs and does, and then acts of several of one slot.
 use Rattle.std.specs.Prelude.{◌≡◌, ℕ, ◌+◌, ◌≤◌, ◌++◌, Some, slice_set}
 use Rattle.trdp_model.specs.Kinds.{kind_of}
 use Rattle.trdp_table.specs.Tables.{TableState, slot_in}
@@ -14,13 +14,13 @@ use Rattle.trdp_outbox.specs.Rooms.{HasRoom, kind_room}
 abbrev pub slot_at : ℕ → TableState → SlotState
 slot_at s table = slot_of (slot_in s table)
 
--- the slot has an object of that handle, and the outbox has room for what it may give
+-- the slot has an object of that handle, and the outbox has room for what it may record
 pub record MayAct (slot : SlotState) (handle : ℕ) (out : OutboxState) : Type 0 where
   pub entry : Entry
   pub found : entry_under handle slot.objects ≡ Some entry
   pub room : HasRoom out (kind_room (kind_of entry.object))
 
--- the outbox took no more than that room
+-- no more than that room of the outbox was used
 pub record TookWithin (out out_then : OutboxState) (room : Room) : Type 0 where
   pub rows : out.row_room ≤ out_then.row_room + room.rows
   pub bytes : out.byte_room ≤ out_then.byte_room + room.bytes

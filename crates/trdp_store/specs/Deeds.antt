@@ -1,4 +1,4 @@
--- What becomes of an object to which something is done.
+-- Whether an object to which something is done stays.
 use Rattle.std.specs.Prelude.{Option, Some, None}
 use Rattle.trdp_model.specs.declared.any_object.AnyObject.{AnyObject}
 use Rattle.trdp_store.specs.declared.deed.Left.{Left}

@@ -1,9 +1,9 @@
--- The kind that the table notes of an object is the one that the object is of.
+-- The kind that the table records for an object is the one that the object is of.
 use Rattle.std.specs.Prelude.{◌≡◌, ℕ, List, [], ◌∷◌}
 use Rattle.trdp_model.specs.Kinds.{kind_of}
 use Rattle.trdp_table.specs.Tables.{Keyed, TableState, slot_in}
 
--- each of these objects is of the kind that the table notes of it, and so counts there for the
+-- each of these objects is of the kind that the table records for it, and so counts there for the
 -- quota of that kind
 abbrev pub AreOfKind : List Keyed → Type 0
 AreOfKind [] = Unit {0}

@@ -3,7 +3,7 @@ use Rattle.std.specs.Prelude.{List, map}
 use Rattle.trdp_table.specs.Tables.{Keyed, SlotTable, TableState}
 use Rattle.trdp_model.specs.Slots.{Entry, SlotState}
 
--- an object of the table as its slot knows it, without its key and the table's note of its kind
+-- an object of the table as its slot knows it, without its key and the kind that the table records
 abbrev pub entry_of_keyed : Keyed → Entry
 entry_of_keyed keyed = record { handle = keyed.handle; object = keyed.object }
 

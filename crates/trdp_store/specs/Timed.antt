@@ -17,13 +17,13 @@ use Rattle.trdp_store.specs.InSession.{IsInSession}
 use Rattle.trdp_store.specs.OfKind.{AllOfKind}
 
 -- the orders of the objects by their keys, and the room in an outbox that each needs at most as it
--- fires: so many records, and so many bytes
+-- fires: a number of records, and a number of bytes
 pub record ScheduleState : Type 0 where
   pub orders : List (Option Order)
   pub rows : List ℕ
   pub bytes : List ℕ
 
--- a schedule with room for so many objects, and without one
+-- a schedule with room for that many objects, and without one
 abbrev pub empty_schedule : ℕ → ScheduleState
 empty_schedule room = record {
   orders = replicate room None;
@@ -56,6 +56,7 @@ pub record IsKeptSchedule (before after : ScheduleState) : Type 0 where
   pub bytes_room : length before.bytes ≤ length after.bytes
 
 -- when an object of a slot acts that has this due moment, if it has one
+-- rule: time.order
 abbrev pub due_order : ℕ → ℕ → Option ℕ → Option Order
 due_order s handle None = None
 due_order s handle (Some due) = Some (record { due = due; slot = s; handle = handle })
@@ -80,8 +81,8 @@ pub record IsOwned (table : TableState) (key : ℕ) (order : Order) : Type 0 whe
   pub found : by_handle order.handle (slot_in order.slot table).objects ≡ Some keyed
   pub key_is : keyed.key ≡ key
 
--- each object stands in the schedule, at its due moment; there are no other orders, and there is
--- room for one of each object
+-- each object is in the schedule, at its due moment; there are no other orders, and there is room
+-- for one of each object
 pub record IsScheduled (table : TableState) (schedule : ScheduleState) : Type 0 where
   pub timed : (s handle : ℕ) (keyed : Keyed)
       → by_handle handle (slot_in s table).objects ≡ Some keyed → IsTimed s schedule keyed

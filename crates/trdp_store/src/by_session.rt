@@ -12,7 +12,7 @@ use trdp_base::SessionId;
 use trdp_index::{Role, SessionIndex};
 use trdp_model::AnyObject;
 
-/// The session of a caller or replier, and what it is there; None for all others.
+/// The session of a caller or replier, and its role there; None for all others.
 pub fn session_of(object: &AnyObject) -> Option<(SessionId, Role)>
     ensures { result ≡ own_session object.now }
 {

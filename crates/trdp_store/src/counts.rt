@@ -3,17 +3,17 @@
 ghost use Rattle.std.specs.Prelude.{◌≡◌, ◌≤◌, ◌<◌, ◌+◌, ◌-◌, ◌^◌};
 ghost use Rattle.trdp_store.specs.Counting.{no_counts};
 
-/// What the latest event that a node took cost it. Each number stays at 2^64 - 1 where it is that
-/// or more. At a call nothing is counted.
+/// What the latest event that a node accepted cost it. A number that would be 2^64 - 1 or more is
+/// 2^64 - 1. At a call nothing is counted.
 #[derive(Clone, Copy)]
 pub struct Counts {
     /// How often two rows of the index by comId were compared, or two orders of the timer heap, or
     /// an order with the moment.
     pub comparisons: u64,
-    /// Filter tests: how often an object was asked whether a telegram is for it, and one for each
-    /// object that is handed it, which asks that by itself.
+    /// Filter tests: how often it was tested whether a telegram is for an object, and one more for
+    /// each object that receives it, which tests that by itself.
     pub tests: u64,
-    /// Look-ups in the index by session; an object that comes into it or goes counts as one.
+    /// Look-ups in the index by session; an object that is added to it or removed counts as one.
     pub look_ups: u64,
 }
 
@@ -29,7 +29,7 @@ impl Counts {
         }
     }
 
-    /// Counts so many comparisons.
+    /// Counts that many comparisons.
     pub fn compared(&mut self, times: u64)
         ensures comparisons { self.new.comparisons ≤ self.old.comparisons + times }
         ensures all { self.new.comparisons < 2 ^ 64 - 1

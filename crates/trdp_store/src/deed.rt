@@ -1,4 +1,4 @@
-//! What is done to one object of the store: a telegram is handed to it, it fires, or a call asks
+//! What is done to one object of the store: it receives a telegram, it fires, or a call asks
 //! something of it.
 
 ghost use Rattle.std.specs.Prelude.{◌≡◌, ℕ, ◌++◌};
@@ -16,31 +16,31 @@ ghost use Rattle.trdp_store.specs.Timed.{IsOver};
 use trdp_model::AnyObject;
 use trdp_outbox::Outbox;
 
-/// What becomes of an object to which something is done.
+/// Whether an object to which something is done stays.
 #[derive(Clone, Copy)]
 pub enum Left {
     /// It stays.
     Stays,
-    /// It ends, and is to be taken out of the table.
+    /// It ends, and must be taken out of the table.
     Ended,
 }
 
 /// What is done to an object. It keeps its kind, the comId that telegrams look for it under, and
 /// its session.
 pub trait Deed {
-    /// What it makes of an object under a handle.
+    /// The effect on an object under a handle.
     ghost act: { Self → ℕ → AnyObject → Act };
 
-    /// What has to be known of the object, its handle and the outbox before.
+    /// What has to be true of the object, its handle and the outbox before.
     ghost may: { Self → ℕ → AnyObject → OutboxState → Type 0 };
 
-    /// What is known of the outbox behind it.
+    /// What is true of the outbox after it.
     ghost spends: { Self → AnyObject → OutboxState → OutboxState → Type 0 };
 
-    /// An object that it ends kept its due moment, or has none.
+    /// Where this holds, an object that it ends kept its due moment, or has none.
     ghost ends_still: { Self → Type 0 };
 
-    /// Does it to an object of that handle in slot `s`, and records what it gives.
+    /// Does it to an object of that handle in slot `s`, and adds its records to the outbox.
     fn on(&self, object: &mut AnyObject, handle: u32, s: u16, out: &mut Outbox) -> Left
         requires may { may self.now handle object.old out.old }
         ensures left { left_of result object.new ≡ (act self.now handle object.old).left }

@@ -2,9 +2,10 @@
 //! be for, and the heap by which a moment finds those that are due.
 //!
 //! A [`Store`] is seen as the slots of its table. The index by comId, the index by session and the
-//! schedule are private: each is proved to be the image of the slots' objects, so that no row, key
-//! or order outlives its object. A [`Deed`] is what is done to one object ([`Store::act`]): the
-//! engine says what that is, and the store keeps its four structures together.
+//! schedule are private. Each is proved to be the image of the slots' objects, so that no row, key
+//! or order outlives its object. A [`Deed`] is what is done to one object ([`Store::act`]):
+//! `trdp_calls`, `trdp_datagrams` and `trdp_engine` define deeds, and the store keeps its four
+//! structures together.
 //!
 //! ```text
 //! let mut store = Store::new(alloc, &quotas)?;                 // a slot for each of the quotas
@@ -14,10 +15,9 @@
 //! count_act(store.act(sought, &deed, &mut out), &mut counts);
 //! ```
 //!
-//! No contract can say how often a body looks: to ask twice for what is due next, or for its room,
-//! is as good as once, and so is to dismiss an object from the schedule twice, or to empty a slot
-//! twice, though the comparisons of one call alone are told then. Nor that memory is there: an
-//! [`Store::open_slot`] that is always refused meets its contract.
+//! No contract says how often an implementation looks: one that asks twice for what is due next,
+//! or dismisses an object from the schedule twice, meets its contract, though it reports the
+//! comparisons of one call alone.
 #![tactic(auto)]
 
 mod by_com;

@@ -1,4 +1,4 @@
-//! When the objects of all slots act, in one heap, and the room that each may need then.
+//! When the objects of all slots fire, in one heap, and the room that each may need then.
 
 ghost use Rattle.std.specs.Prelude.{◌≡◌, ◌<◌, ◌≤◌, ◌+◌, ◌-◌, ◌*◌, ◌^◌, ◌++◌, ℕ, length, None};
 ghost use Rattle.std.specs.Prelude.{IfOk, OnOk, is_ok, if◌then◌else◌};
@@ -16,14 +16,14 @@ use std::marker::Model;
 use trdp_outbox::Room;
 use trdp_timers::{Order, Timers};
 
-/// When the objects of all slots act, by their keys, and the room that each may need then.
+/// When the objects of all slots fire, by their keys, and the room that each may need then.
 #[derive(Drop)]
 pub struct Schedule {
     /// The due moments, each with its slot and handle. A key has none where it has no object, or
     /// one that is never due.
     timers: Timers,
-    /// How many records the object of each key gives at most as it fires; where a key has no
-    /// object it says nothing.
+    /// How many records the object of each key adds at most as it fires; where a key has no object
+    /// it says nothing.
     rows: Vec<usize>,
     /// How many bytes these records have at most, likewise.
     bytes: Vec<usize>,
@@ -43,20 +43,20 @@ impl Model for Schedule {
     ghost invariant = { λ s. IsSchedule s.timers.orders s.rows.items s.bytes.items };
 }
 
-/// So many zeros.
+/// `count` zeros.
 ///
 /// # Errors
-/// Want of memory.
+/// [`AllocError`] where there is no memory for them.
 fn zeros(alloc: Global, count: usize) -> Result<Vec<usize>, AllocError>
     ensures { IfOk result (λ zeros. zeros.items ≡ replicate count 0) }
 {
     vec![in alloc; 0; count]
 }
 
-/// Puts zeros behind the sizes of the keys until each key below `room` has one.
+/// Appends zeros to the sizes of the keys until each key below `room` has one.
 ///
 /// # Errors
-/// Want of memory; the sizes have not changed.
+/// [`AllocError`] where there is no memory; the sizes have not changed.
 fn lengthen(sizes: &mut Vec<usize>, room: usize) -> Result<(), AllocError>
     ensures { sizes.new.items
         ≡ (if is_ok result
@@ -89,11 +89,11 @@ impl Schedule {
         })
     }
 
-    /// Makes room for the keys below `room`; it never falls. Each key keeps its order, and the room
-    /// that its object may need, whatever the answer.
+    /// Makes room for the keys below `room`; the room never falls. Each key keeps its order, and
+    /// the room that its object may need, whatever the result.
     ///
     /// # Errors
-    /// [`AllocError`] where there is no memory for so many keys.
+    /// [`AllocError`] where there is no memory for that many keys.
     pub fn grow(&mut self, room: usize) -> Result<(), AllocError>
         requires { room ≤ 16 * object_limit }
         ensures room { OnOk result (room ≤ length self.new.orders) }
@@ -119,8 +119,8 @@ impl Schedule {
         self.bytes[key] = room.bytes;
     }
 
-    /// The object of a key, which acted at the one moment or never, acts at the other one now, in
-    /// microseconds, or never. It answers how often it compared two orders: never where the moment
+    /// Sets the due moment of a key's object from `before` to `due`, in microseconds; None where
+    /// the object is never due. It returns how often it compared two orders: 0 where the moment
     /// stays.
     pub fn change(
         &mut self,
@@ -150,8 +150,8 @@ impl Schedule {
         self.timers.probes()
     }
 
-    /// The object of a key acts no more. It answers how often it compared two orders: never where
-    /// the key had none.
+    /// Removes the order of a key, if it has one. It returns how often it compared two orders: 0
+    /// where the key had none.
     pub fn dismiss(&mut self, key: usize) -> u64
         ensures orders { self.new.orders ≡ slice_set self.old.orders key None }
         ensures rows { self.new.rows ≡ self.old.rows }
@@ -188,7 +188,7 @@ impl Schedule {
         Some(order)
     }
 
-    /// Room for what all objects that are due by `t`, in microseconds, may give as they fire, and
+    /// Room for the records of all objects that are due by `t`, in microseconds, as they fire, and
     /// how often an order was compared with `t`.
     pub fn due_room(&mut self, t: u64) -> (Room, u64)
         ensures rows { result.0.rows ≡ sum (due_sizes t self.old.orders self.old.rows) }

@@ -8,6 +8,6 @@ pub struct Sought {
     /// Its handle there.
     pub handle: u32,
     /// The key that it is known to have had; None where none is known. The object that is found is
-    /// that of the slot and the handle, whatever stands here: a key that is right saves a search.
+    /// that of the slot and the handle, whatever this key is: a right one saves a search.
     pub key: Option<usize>,
 }

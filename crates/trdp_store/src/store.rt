@@ -48,8 +48,8 @@ mod added;
 mod reads;
 mod reset;
 
-/// The objects of all slots of a node, as its table has them, an index of those that telegrams of
-/// a comId may be for, one of those that are in a session, and when each is due.
+/// The objects of all slots of a node, with an index of those that telegrams of a comId may be
+/// for, one of those that are in a session, and a schedule of when each is due.
 #[derive(Drop)]
 pub struct Store {
     /// The objects, each under a handle of its slot and a key.
@@ -148,7 +148,7 @@ impl Store {
         Some((handle, key))
     }
 
-    /// Adds an object to a slot, last under the slot's next handle, and answers that handle. It
+    /// Adds an object to a slot, last, under the slot's next handle, and returns that handle. It
     /// takes no memory, and counts how often it compared two orders.
     ///
     /// # Errors
@@ -199,22 +199,23 @@ impl Store {
         }
     }
 
-    /// The comId, or any, under which telegrams look for the object of a key.
+    /// The comId, or any, under which telegrams look for the object of a key; None where they look
+    /// for none there by comId.
     fn com_at(&self, key: usize) -> Option<Option<u32>>
         ensures { result ≡ com_found (by_key key (all_objects self.now)) }
     {
         com_of(self.table.get(key)?)
     }
 
-    /// The session of the object of a key, and what it is there.
+    /// The session of the object of a key, and its role there; None where it is in none.
     fn session_at(&self, key: usize) -> Option<(SessionId, Role)>
         ensures { result ≡ session_found (by_key key (all_objects self.now)) }
     {
         session_of(self.table.get(key)?)
     }
 
-    /// Takes a slot's object of that handle, whose key this is, out of the store; all other objects
-    /// keep their keys. It answers how often it compared two orders.
+    /// Takes a slot's object of that handle, whose key this is, out of the store; all other
+    /// objects keep their keys. It returns how often it compared two orders.
     fn remove(&mut self, slot: u16, handle: u32, key: usize) -> u64
         requires slot { slot < length self.old }
         requires key { option_map (λ keyed. keyed.key)
@@ -255,8 +256,8 @@ impl Store {
         })
     }
 
-    /// Room for what fires in all slots by `t`, in microseconds, and how often an order was
-    /// compared with `t`.
+    /// Room for the records of what fires in all slots by `t`, in microseconds, and how often an
+    /// order was compared with `t`.
     pub fn due_room(&mut self, t: u64) -> (Room, u64)
         ensures room { result.0 ≡ moment_room t (slots_of self.old) }
         ensures kept { self.new ≡ self.old }
@@ -266,9 +267,9 @@ impl Store {
         self.schedule.due_room(t)
     }
 
-    /// Does a deed to the object that is sought, if there is one; one that ends leaves the store.
-    /// It answers what became of the object, and how often two orders were compared; None where
-    /// there is no such object, and nothing was done.
+    /// Does a deed to the object that is sought, if there is one; an object that ends leaves the
+    /// store. It returns whether the object stays, and how often two orders were compared; None
+    /// where there is no such object, and nothing was done.
     pub fn act<D: Deed>(
         &mut self,
         sought: Sought,

@@ -1,4 +1,4 @@
--- A slot's list: handles, kinds and keys, without the objects, which stand in the pool.
+-- A slot's list: handles, kinds and keys, without the objects, which are in the pool.
 use Rattle.std.specs.Prelude.{ℕ, ◌+◌, ◌<◌, ◌≤◌, max, List, [], ◌∷◌, ◌++◌, find, filter, count_by}
 use Rattle.std.specs.Prelude.{slice_index, slice_index_or, slice_set}
 use Rattle.std.specs.Prelude.{Option, Some, None, option_map}
@@ -18,6 +18,7 @@ pub record SlotEntries : Type 0 where
   pub entries : List Entry
 
 -- an empty slot, whose first handle will be 1
+-- rule: slot.share
 abbrev pub opened_entries : List ℕ → SlotEntries
 opened_entries quotas = record { quotas = quotas; next = 1; entries = [] }
 
@@ -48,7 +49,7 @@ refusal_of slot kind =
 abbrev pub new_entry : ℕ → Kind → ℕ → Entry
 new_entry handle kind key = record { handle = handle; kind = kind; key = key }
 
--- a slot with one entry more, which stands last under the next handle
+-- a slot with one more entry, the last, under the next handle
 abbrev pub with_entry : Kind → ℕ → SlotEntries → SlotEntries
 with_entry kind key slot =
     record slot {

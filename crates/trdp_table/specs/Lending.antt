@@ -1,4 +1,4 @@
--- What the pool and the table become where one of their objects is lent.
+-- How the pool and the table change where one of their objects is lent.
 use Rattle.std.specs.Prelude.{ℕ, Option}
 use Rattle.std.specs.Borrow.{Lends, LendsIf, MutBor, Fml}
 use Rattle.trdp_model.specs.declared.any_object.AnyObject.{AnyObject}

@@ -43,7 +43,7 @@ abbrev pub placed : Slab Held → Option ℕ → Option Held
 placed slab None = None
 placed slab (Some place) = get slab place
 
--- each key has a place of its own in the slab, or is free and stands once in the list of those;
+-- each key has a place of its own in the slab, or is free and is once in the list of free keys;
 -- there is room for an object under each key, and for each key in the list
 pub record IsKeptPool (slab : Slab Held) (places : List (Option ℕ)) (free : List ℕ) (capacity : ℕ)
     : Type 0 where

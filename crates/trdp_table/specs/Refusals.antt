@@ -1,4 +1,4 @@
--- Why a call is refused whose new object the table refuses.
+-- Why a call is refused where the table refuses its new object.
 use Rattle.trdp_table.specs.declared.fault.TableFault.{TableFault}
 use Rattle.trdp_table.specs.declared.fault.TableFault.TheVariants.{Quota as UsedUp}
 use Rattle.trdp_model.specs.declared.fault.Refusal.{Refusal}

@@ -10,7 +10,7 @@ use Rattle.trdp_model.specs.Slots.{slot_limit}
 use Rattle.trdp_table.specs.Entries.{SlotEntries, AreSlotEntries, entries_in, key_of}
 use Rattle.trdp_table.specs.Pools.{PoolState, held_in, owner_in, held_count}
 
--- what stands for the object of a key that has none; no slot names such a key
+-- in place of the object of a key that has none; no slot names such a key
 abbrev pub no_object : AnyObject
 no_object = Requester (record {
   terms = record {

@@ -77,7 +77,8 @@ abbrev pub new_object : ℕ → ℕ → AnyObject → Keyed
 new_object handle key object =
     record { handle = handle; kind = kind_of object; key = key; object = object }
 
--- a slot with a new object, which stands last under the next handle
+-- a slot with a new object, the last, under the next handle
+-- rule: slot.handle
 abbrev pub with_object : ℕ → AnyObject → SlotTable → SlotTable
 with_object key object slot =
     record slot {
@@ -86,6 +87,7 @@ with_object key object slot =
     }
 
 -- a slot without the object of a handle
+-- rule: slot.handle
 abbrev pub without_handle : ℕ → SlotTable → SlotTable
 without_handle handle slot =
     record slot { objects = filter (λ keyed. not (keyed.handle == handle)) slot.objects }
@@ -99,6 +101,7 @@ abbrev pub with_next : ℕ → SlotTable → SlotTable
 with_next next slot = record slot { next = max slot.next next }
 
 -- the table with one slot changed
+-- rule: slot.alone
 abbrev pub changed_at : ℕ → (SlotTable → SlotTable) → TableState → TableState
 changed_at s change table = slice_set table s (change (slot_in s table))
 

@@ -38,7 +38,7 @@ impl KindCounts {
         self.numbers[kind.index()] += 1;
     }
 
-    /// One object of a kind less.
+    /// One object fewer of a kind.
     pub fn remove(&mut self, kind: Kind)
         requires { 0 < slice_index self.old.numbers (kind_index kind) }
         ensures { (other : Kind) → slice_index self.old.numbers (kind_index other)

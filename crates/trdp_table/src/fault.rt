@@ -11,7 +11,7 @@ pub enum TableFault {
     /// The slot has as many objects of the kind as its quota allows.
     #[error("the slot has as many objects of the kind as its quota allows")]
     Quota = 1,
-    /// The slot has given out its last handle, 4,294,967,295.
+    /// The slot has given out its last handle, 4,294,967,295 (profile).
     #[error("the slot has given out its last handle")]
     Exhausted = 2,
     /// The table has as many slots as it may have, 16.

@@ -2,7 +2,7 @@
 
 use trdp_model::AnyObject;
 
-/// An object, and whose it is.
+/// An object, with its slot and its handle there.
 #[derive(Drop)]
 pub struct Held {
     /// The number of its slot.

@@ -1,9 +1,8 @@
-//! The objects of all slots, of any kind: for each slot of a node its objects, each under a handle
-//! of the slot.
+//! The objects of all slots of a node, of any kind, each under a handle of its slot.
 //!
-//! A [`Table`] finds an object by its slot and handle and gives a key, by which the object is
+//! A [`Table`] finds an object by its slot and handle and returns a key, by which the object is
 //! reached without a further search. An object keeps its key, shared with no other, until its
-//! removal.
+//! removal. `trdp_store` keeps its objects in a table.
 //!
 //! ```text
 //! let mut table = Table::new(alloc, &quotas)?;        // a slot for each of the quotas
@@ -13,12 +12,11 @@
 //! table.remove(0, handle)                             // the object, and its key is free again
 //! ```
 //!
-//! `Table::new` takes the memory for all that the quotas of its slots allow, and `Table::add_slot`
-//! that for those of one more slot; nothing else takes any.
+//! `Table::new` takes the memory for all objects that the quotas of its slots allow.
+//! `Table::add_slot` takes that for one more slot. Nothing else takes memory.
 //!
-//! No contract can say that a guess is used: a [`Table::find_near`] that searches as `find` does
-//! meets its contract, and costs a search. Nor that memory is there: a `Table::new` that is always
-//! refused it meets its contract, and the tests show that it isn't.
+//! No contract says that a known key is used: a [`Table::find_near`] that searches as `find` does
+//! meets its contract, and costs a search.
 #![tactic(auto)]
 
 mod counts;

@@ -22,7 +22,7 @@ pub struct Pool {
     slab: Slab<Held>,
     /// For each key the object's place in the slab; None where the key is free.
     places: Vec<Option<usize>>,
-    /// The free keys, of which the last is the next to be given, in a list with room for all keys.
+    /// The free keys, of which the last is used next, in a list with room for all keys.
     free: Vec<usize>,
 }
 
@@ -37,7 +37,7 @@ impl Model for Pool {
     ghost invariant = { λ p. IsKeptPool p.slab p.places.items p.free.items (vec_capacity p.free) };
 }
 
-/// Adds so many keys, all of them free, for which both lists have room.
+/// Adds `more` keys, all of them free, for which both lists have room.
 fn add_keys(places: &mut Vec<Option<usize>>, free: &mut Vec<usize>, more: usize)
     requires places { vec_len places.old + more ≤ vec_capacity places.old }
     requires free { vec_len free.old + more ≤ vec_capacity free.old }
@@ -88,17 +88,17 @@ impl Pool {
         Ok(pool)
     }
 
-    /// Makes room for so many more objects: as many keys come, all of them free. It takes the
+    /// Makes room for `more` objects: it adds that many keys, all of them free, and takes the
     /// memory for these objects.
     ///
     /// # Errors
-    /// [`AllocError`] where there is no such memory; no key has come.
+    /// [`AllocError`] where there is no such memory; no key was added.
     pub fn grow(&mut self, more: usize) -> Result<(), AllocError>
         ensures ok { OnOk result (self.new ≡ self.old ++ replicate more None) }
         ensures err { OnErr result (self.new ≡ self.old) }
     {
-        // Each key is free or holds an object: the free list lacks those that hold one, and the
-        // slab those that are free.
+        // Each key is free or holds an object: the free list has those that are free, and the slab
+        // the objects of the others.
         let held = self.slab.len();
         self.places.reserve_exact(more)?;
         self.free.reserve_exact(held + more)?;
@@ -124,7 +124,7 @@ impl Pool {
         }
     }
 
-    /// Holds an object under a free key.
+    /// Holds an object under a free key, and returns that key.
     pub fn insert(&mut self, held: Held) -> usize
         requires { held_count self.old < length self.old }
         ensures vacant { held_in self.old result ≡ None }
@@ -139,7 +139,7 @@ impl Pool {
         key
     }
 
-    /// Takes out the object of a key, which is free then.
+    /// Takes out the object of a key, and frees the key.
     pub fn remove(&mut self, key: usize) -> Held
         requires { IsSome (held_in self.old key) }
         ensures held { held_in self.old key ≡ Some result }

@@ -29,7 +29,7 @@ pub struct Slot {
     quotas: Quotas,
     /// How many objects count for each quota.
     counts: KindCounts,
-    /// The handle of its next new object, from 1; 2^32 once all handles are given out.
+    /// The handle of its next new object, from 1; 2^32 once all handles are used up.
     next: u64,
     /// Its objects by rising handle, in a list that has room for all that the quotas allow and
     /// never grows.
@@ -68,7 +68,8 @@ impl Slot {
     /// An empty slot.
     ///
     /// # Errors
-    /// [`AllocError`] where there is no memory for the handles of all objects that quotas allow.
+    /// [`AllocError`] where there is no memory for the entries of all objects that the quotas
+    /// allow.
     pub fn new(alloc: Global, quotas: Quotas) -> Result<Slot, AllocError>
         ensures slot { IfOk result (λ slot. slot ≡ opened_entries quotas) }
         ensures limited { AreLimited quotas }
@@ -113,7 +114,7 @@ impl Slot {
         self.entry_at(index).map(|entry| entry.key)
     }
 
-    /// How many objects of a kind it has, and how many it may have, at most 256.
+    /// How many objects of a kind it has, and how many it may have, each at most 256.
     pub fn usage(&self, kind: Kind) -> (u16, u16)
         ensures count { result.0 ≡ entries_of kind self.now.entries }
         ensures quota { result.1 ≡ slice_index self.now.quotas (kind_index kind) }
@@ -123,7 +124,8 @@ impl Slot {
         (self.counts.get(kind), self.quotas.get(kind.index()))
     }
 
-    /// Why it takes no further object of a kind: its quota is used up, or its handles are.
+    /// Why it takes no further object of a kind: its quota is used up, or its handles are. None
+    /// where it takes one.
     pub fn refuses(&self, kind: Kind) -> Option<TableFault>
         ensures { result ≡ refusal_of self.now kind }
     {
@@ -155,7 +157,7 @@ impl Slot {
         self.entries.push_reserved(Entry { handle, kind, key });
     }
 
-    /// Forgets the object of that handle, and answers its key; None where there is none.
+    /// Removes the entry of that handle, and returns its key; None where there is none.
     pub fn remove(&mut self, handle: u32) -> Option<usize>
         ensures key { result ≡ key_of handle self.old.entries }
         ensures slot { self.new ≡ without_entry handle self.old }

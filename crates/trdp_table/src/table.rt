@@ -32,7 +32,7 @@ use trdp_model::{AnyObject, Kind, SLOTS_MAX};
 /// of the table.
 #[derive(Drop)]
 pub struct Table {
-    /// Where a further slot takes its memory from.
+    /// The allocator that a further slot takes its memory from.
     alloc: Global,
     /// The slots by their numbers, from 0.
     slots: Vec<Slot>,
@@ -90,8 +90,8 @@ impl Table {
         Ok(Table { alloc, slots, pool })
     }
 
-    /// Opens one more slot, empty, under the next number, which it answers. It takes the memory for
-    /// all objects that the quotas allow; objects that are there keep their handles and keys.
+    /// Opens one more slot, empty, under the next number, and returns that number. It takes the
+    /// memory for all objects that the quotas allow; present objects keep their handles and keys.
     ///
     /// # Errors
     /// The first that applies of `SlotsFull`, where there are 16 slots, and `OutOfMemory`; nothing
@@ -124,8 +124,8 @@ impl Table {
         self.slots.len()
     }
 
-    /// How many objects all slots together can have, which is the total of their quotas: each key
-    /// is below this. It rises with each slot that is added, and changes by nothing else.
+    /// How many objects all slots together can have, which is the total of their quotas. Each key
+    /// is below this number. Only a slot that is added changes it: it rises.
     pub fn room(&self) -> usize
         ensures { result ≡ room_of self.now }
     {
@@ -161,8 +161,8 @@ impl Table {
         self.slots[usize::from(slot)].find(handle)
     }
 
-    /// What [`Table::find`] answers. The object is looked for first under the key that it is known
-    /// to have had, and is searched for only where it stands under another one, or none is known.
+    /// What [`Table::find`] returns. It looks first under the key that the object is known to have
+    /// had, and searches only where the object has another one, or none is known.
     pub fn find_near(&self, slot: u16, handle: u32, known: Option<usize>) -> Option<usize>
         requires { slot < length self.now }
         ensures { result
@@ -204,7 +204,7 @@ impl Table {
     }
 
     /// Why a slot takes no further object of a kind: the first that applies of its quota and its
-    /// handles, as [`Table::add`] answers it.
+    /// handles, as [`Table::add`] reports it. None where it takes one.
     pub fn refuses(&self, slot: u16, kind: Kind) -> Option<TableFault>
         requires { slot < length self.now }
         ensures { result ≡ refusal (slot_in slot self.now) kind }
@@ -212,7 +212,7 @@ impl Table {
         self.slots[usize::from(slot)].refuses(kind)
     }
 
-    /// How many objects of a kind a slot has, and how many it may have, at most 256.
+    /// How many objects of a kind a slot has, and how many it may have, each at most 256.
     pub fn usage(&self, slot: u16, kind: Kind) -> (u16, u16)
         requires { slot < length self.now }
         ensures count { result.0 ≡ count_of kind (slot_in slot self.now).objects }
@@ -223,7 +223,7 @@ impl Table {
         self.slots[usize::from(slot)].usage(kind)
     }
 
-    /// Adds an object that the slot doesn't refuse, and answers its handle.
+    /// Adds an object that the slot doesn't refuse, and returns its handle.
     fn install(&mut self, slot: u16, object: AnyObject) -> u32
         requires slot { slot < length self.old }
         requires granted { refusal (slot_in slot self.old) (kind_of object) ≡ None }
@@ -242,7 +242,7 @@ impl Table {
         handle
     }
 
-    /// Adds an object to a slot, last under the slot's next handle, and answers that handle. It
+    /// Adds an object to a slot, last, under the slot's next handle, and returns that handle. It
     /// takes no memory.
     ///
     /// # Errors
@@ -290,8 +290,9 @@ impl Table {
 impl Table {
     ghost use Rattle.trdp_table.specs.Lending.{LendsAtKey};
 
-    /// Lends the object of that key alone; None where no slot has one. Whatever becomes of it, its
-    /// handle and its key stay, and it counts for its quota under the kind that it was added with.
+    /// Lends the object of that key alone; None where no slot has one. Whatever the caller makes
+    /// of it, its handle and its key stay, and it counts for the quota of the kind that it was
+    /// added with.
     pub fn get_mut(&mut self, key: usize) -> Option<&mut AnyObject>
         ensures* writes_back { sem 𝓛 (LendsAtKey self.entry key result) }
         ensures value { option_copied_mut result
@@ -306,10 +307,10 @@ impl Table {
 }
 
 impl Table {
-    /// What holds of every table: a law for callers, which does nothing when it runs. Handles rise,
-    /// quotas are kept, and no key is that of two objects. The object of a handle, or of an index,
-    /// is the one that its key gives; where it becomes another one, all other objects stay. The
-    /// room is for all objects, and for one more while a slot takes one.
+    /// What holds of every table: a law for callers, which does nothing when it runs. Handles
+    /// rise, quotas are kept, and no key is that of two objects. The object of a handle, or of an
+    /// index, is that of its key; where it is exchanged for another one, all other objects stay.
+    /// The room is for all objects, and for one more while a slot takes one.
     pub fn sound(&self)
         ensures sound { IsTable self.now }
         ensures found { (s handle : ℕ) (keyed : Keyed)

@@ -1,4 +1,4 @@
--- What is due stands at the top of a heap.
+-- What is due is at the top of a heap.
 -- For `Heap::due_below` and `due_at`, `Timers::due_totals`, and for `FewerLemmas`.
 -- By: below what isn't due nothing is, so a walk from the top adds up all that is due.
 use Rattle.std.proofs.Common.{◌≡◌, ◌≤◌, ◌<◌, ◌-◌, ◌+◌, ◌*◌, ◌/◌, ◌^◌, inl, inr, ℕ, zero, suc, List}

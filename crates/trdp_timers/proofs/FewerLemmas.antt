@@ -1,4 +1,4 @@
--- How many are due, as they are taken one after another.
+-- How many are due, as they are removed one after another.
 -- For the laws `one_fewer_is_due` and `first_is_due_first`.
 -- By: the first of a heap acts before all others, so where it isn't due none is.
 use Rattle.std.proofs.Common.{◌≡◌, ◌<◌, ◌+◌, ℕ, suc, List, [], ◌∷◌, length}

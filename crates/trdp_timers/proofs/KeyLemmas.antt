@@ -61,7 +61,7 @@ new_fits orders keys places ks limit key place was unset within kept e at_end =
     rw (len, at_end, none_of was unset)
     (extended (length keys) (order_at before keys) (order_at orders ks) kept.heap same)
 
--- a set that is taken back
+-- a set that is undone
 pub undone : (orders : List (Option Order)) (key : ℕ) (o was : Option Order)
     → was ≡ get_or orders key was → set (set orders key o) key was ≡ orders
 undone orders key o was e = set-set orders key o was

@@ -1,4 +1,4 @@
--- One step of what stands at a place up or down a heap.
+-- One step of what is at a place up or down a heap.
 -- For `rise`, `sink` and `first_below`, and for `KeyLemmas`.
 -- By: in a heap that is one but at one place, a step moves that place and leaves the rest a heap.
 use Rattle.std.proofs.Common.{◌≡◌, ◌<◌, ◌≤◌, ◌-◌, ◌+◌, ◌*◌, ◌/◌, inl, inr, ℕ, zero}
@@ -13,7 +13,7 @@ use Rattle.trdp_timers.proofs.OrderLemmas.{leads_refl, leads_none, leads_trans}
 along : {a b x y : Option Order} → x ≡ a → y ≡ b → Leads a b → Leads x y
 along {a} {b} {x} {y} e f h = rw (e, f) h
 
--- a heap where what stands at the place fits between its neighbours
+-- a heap where what is at the place fits between its neighbours
 pub settled : (n : ℕ) (at : ℕ → Option Order) (p : ℕ) (was : Option Order) → FitsAt n at p was
     → (0 < p → Leads (at ((p - 1) / 2)) (at p))
     → ((i : ℕ) → 0 < i → i < n → (i - 1) / 2 ≡ p → Leads (at p) (at i)) → IsHeap n at
@@ -25,7 +25,7 @@ settled n at p was fits up down i some within = elim (cases_eq i p) [
   ]
 ]
 
--- what stands at p goes up one step
+-- what is at p goes up one step
 pub risen : (n m : ℕ) (at to : ℕ → Option Order) (p q : ℕ) → m ≡ n → q ≡ (p - 1) / 2
     → 0 < p → p < n → IsSwapped at to p q → Leads (at p) (at q) → CanRise n at p → CanRise m to q
 risen n m at to p q same_n is some within swapped before (was, fits, rises) = (
@@ -52,7 +52,7 @@ risen n m at to p q same_n is some within swapped before (was, fits, rises) = (
   along swapped.second refl before,
 )
 
--- what stands at p goes down one step, in exchange for the first of those below it
+-- what is at p goes down one step, in exchange for the first of those below it
 pub sunk : (n m : ℕ) (at to : ℕ → Option Order) (p c : ℕ)
     → m ≡ n → 0 < c → c < n → (c - 1) / 2 ≡ p → IsSwapped at to p c
     → ((i : ℕ) → 0 < i → i < n → (i - 1) / 2 ≡ p → Leads (at c) (at i))
@@ -79,7 +79,7 @@ sunk n m at to p c same_n some within is swapped first (was, fits) = (
   },
 )
 
--- what stands at p, below which nothing stands, can rise from there
+-- what is at p, below which nothing is, can rise from there
 pub can_rise_from_end : (n : ℕ) (at : ℕ → Option Order) (p : ℕ) → n / 2 ≤ p → CanSink n at p
     → CanRise n at p
 can_rise_from_end n at p end (was, fits) = (

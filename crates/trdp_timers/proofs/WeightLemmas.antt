@@ -1,4 +1,4 @@
--- What stands in a heap weighs as much as all keys.
+-- The keys in a heap weigh as much as all keys.
 -- For `TotalLemmas`.
 -- By induction on the levels of the heap: each is a stretch of places, and each key has one place.
 use Rattle.std.proofs.Common.{◌≡◌, ◌≢◌, ◌<◌, ◌-◌, ◌+◌, ◌*◌, ◌^◌, inl, inr, ℕ, zero, suc}
@@ -67,7 +67,7 @@ sum_step xs i = elim (cases_lt i (length xs)) [
       let z = get_or_past xs i 0 h in rw (a, b, z) (omega arith)
 ]
 
--- all that stands in a heap
+-- all keys in a heap
 below_all : (xs : List ℕ) (d : ℕ) → length xs < 2 ^ d → below (λ i. get_or xs i 0) d 0 ≡ sum xs
 below_all xs d deep =
     below_front (λ i. get_or xs i 0) (λ i. sum (take i xs)) (sum_step xs) refl d

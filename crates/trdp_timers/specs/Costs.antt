@@ -1,4 +1,4 @@
--- Comparisons along one path of a heap, which can be counted within a u64.
+-- Comparisons along one path of a heap, which a u64 can count.
 use Rattle.std.specs.Prelude.{ℕ, ◌+◌, ◌*◌, ◌^◌, ◌<◌}
 
 -- one for each level from p up

@@ -1,4 +1,4 @@
--- A binary heap of keys, and where each key stands.
+-- A binary heap of keys, and the place of each key.
 use Rattle.std.specs.Prelude.{◌≡◌, ◌≢◌, ℕ, ◌-◌, ◌/◌, ◌<◌, ◌≤◌, List, length, Option, None}
 use Rattle.std.specs.Prelude.{is_some, IsSome, count_by, slice_index, slice_index_or}
 use Rattle.trdp_timers.specs.declared.order.Order.{Order}
@@ -16,27 +16,27 @@ AllSet orders keys = (i : ℕ) → i < length keys → IsSome (order_at orders k
 abbrev pub IsHeap : ℕ → (ℕ → Option Order) → Type 0
 IsHeap n at = (i : ℕ) → 0 < i → i < n → Leads (at ((i - 1) / 2)) (at i)
 
--- it would be a heap if `was` stood at the place p
+-- it would be a heap with `was` at the place p
 pub record FitsAt (n : ℕ) (at : ℕ → Option Order) (p : ℕ) (was : Option Order) : Type 0 where
   pub others : (i : ℕ) → 0 < i → i < n → i ≢ p → (i - 1) / 2 ≢ p → Leads (at ((i - 1) / 2)) (at i)
   pub above : 0 < p → Leads (at ((p - 1) / 2)) was
   pub below : (i : ℕ) → 0 < i → i < n → (i - 1) / 2 ≡ p → Leads was (at i)
 
--- it would be a heap if what stands at p came later
+-- it would be a heap if what is at p came later
 abbrev pub CanRise : ℕ → (ℕ → Option Order) → ℕ → Type 0
 CanRise n at p = (was : Option Order) × FitsAt n at p was × Leads (at p) was
 
--- it would be a heap if something else stood at p
+-- it would be a heap with something else at p
 abbrev pub CanSink : ℕ → (ℕ → Option Order) → ℕ → Type 0
 CanSink n at p = (was : Option Order) × FitsAt n at p was
 
--- what stood at a and b has been exchanged
+-- what was at a and b has been exchanged
 pub record IsSwapped (at to : ℕ → Option Order) (a b : ℕ) : Type 0 where
   pub first : to a ≡ at b
   pub second : to b ≡ at a
   pub others : (i : ℕ) → i ≢ a → i ≢ b → to i ≡ at i
 
--- the keys are those that have an order, and each stands where its place says
+-- the keys are those that have an order, and each is where its place says
 pub record IsPlaced (orders : List (Option Order)) (keys places : List ℕ) : Type 0 where
   pub within : (i : ℕ) → i < length keys → slice_index keys i < length places
   pub listed : (i : ℕ) → i < length keys → slice_index places (slice_index keys i) ≡ i

@@ -45,7 +45,7 @@ impl Heap {
         Some((sizes.0[key] as u64, sizes.1[key] as u64))
     }
 
-    /// The sizes of either kind, together, of the keys at a place and below it that are due by t.
+    /// The sums, by either list of sizes, of the keys at a place and below it that are due by t.
     /// Nothing is due below a key that isn't, so that it goes no further there.
     pub fn due_below(
         &self,

@@ -62,8 +62,8 @@ impl Heap {
         place
     }
 
-    /// Takes out a key that has an order, and tells the place where it stood: the last key stands
-    /// there now, unless it was itself the last.
+    /// Removes a key that has an order, and returns the place where it was: the last key is there
+    /// now, unless it was itself the last.
     pub fn withdraw(&mut self, orders: &Vec<Option<Order>>, key: usize) -> usize
         requires set { IsSome (slice_index_or orders.now.items key None) }
         requires kept { IsKept orders.now.items

@@ -1,7 +1,7 @@
 //! A binary heap of keys, which knows the place of each key in it.
 //!
-//! The orders of the keys stand outside it and are passed in. What stands at a place acts no
-//! sooner than what stands at half of it, `(place - 1) / 2`.
+//! The orders of the keys are kept outside of it and passed in. The key at a place acts no sooner
+//! than the key at half of it, `(place - 1) / 2`.
 
 ghost use Rattle.std.specs.Prelude.{◌≡◌, ◌<◌, ◌≤◌, ◌+◌, ◌*◌, ◌^◌, ℕ, length, vec_capacity};
 ghost use Rattle.trdp_timers.specs.Heap.{order_at, IsHeap, FitsAt, IsPlaced};

@@ -1,4 +1,4 @@
-//! What is true of all orders of keys, for callers that take what is due one after another.
+//! What is true of all orders of keys, for callers that remove what is due one after another.
 
 ghost use Rattle.std.specs.Prelude.{◌≡◌, ◌+◌, ℕ, true, false, List, Option, Some, None};
 ghost use Rattle.std.specs.Prelude.{count_by, slice_index_or, slice_set};
@@ -15,7 +15,7 @@ pub fn first_is_due_first()
         → count_by (is_due_by t) orders ≡ 0 }
 {}
 
-/// Once a key's order that is due by a moment is taken away, one fewer is due by it.
+/// Once a key's order that is due by a moment is removed, one fewer is due by it.
 pub fn one_fewer_is_due()
     ensures { (orders : List (Option Order)) (key : ℕ) (order : Order) (t : ℕ)
         → slice_index_or orders key None ≡ Some order → is_due_by t (Some order) ≡ true

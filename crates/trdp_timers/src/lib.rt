@@ -1,6 +1,6 @@
 //! The due moments of a node's objects, of all slots in one heap.
 //!
-//! [`Timers`] are an [`Order`] for some of the keys below a room.
+//! [`Timers`] keep an [`Order`] for some of the keys below a room.
 //!
 //! ```text
 //! let mut timers = Timers::with_room(alloc, 256)?;
@@ -10,16 +10,18 @@
 //! ```
 //!
 //! Each object has a key, a number below the room, under which its order is set and cleared. The
-//! order of a key says when its object acts: by the due moment, then by the slot, then by the
-//! handle. What a key has is a finite map, `specs/Contents.antt`. The heap below it keeps a place
-//! for each key, so that an order in the middle is set anew or cleared as cheaply as the first is
-//! taken; each comparison is counted.
+//! order says when the object acts: the least due moment first, then the least slot, then the
+//! least handle. The heap keeps the place of each key, so an order in the middle is replaced or
+//! cleared as cheaply as the first is removed. `trdp_store` keeps its objects' due moments here.
 //!
-//! What no contract says is that `set`, `clear` and `pop` count every comparison: for these the
-//! number is bounded from above alone, but that `set` counts one at least. How many there are
-//! depends on places in the heap, which are no part of what a key has. The worked example
-//! `calls_have_their_comparisons` of `trdp_parts_tests` has the number of each call. To ask for
-//! the `first` twice is as good as once, and two places are exchanged in either order.
+//! Proved: timers are a finite map from keys to orders (`specs/Contents.antt`), and each call
+//! stays within its bound of comparisons.
+//!
+//! No contract says that `set`, `clear` and `pop` count every comparison: for these the number has
+//! an upper bound alone, and `set` counts at least one. How many there are depends on places in
+//! the heap, which are no part of the map. The worked example `calls_have_their_comparisons` of
+//! `trdp_parts_tests` has the number of each call. Nor does a clause see whether `first` is called
+//! once or twice, or in which order two places are exchanged.
 #![tactic(auto)]
 
 mod due;

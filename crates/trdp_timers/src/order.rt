@@ -6,7 +6,7 @@ ghost use Rattle.trdp_timers.specs.Orders.{is_sooner, goes_before, is_due_by};
 /// When an object acts: the sooner by the due moment, then by the slot, then by the handle.
 #[derive(Clone, Copy, Debug, PartialEq, Eq)]
 pub struct Order {
-    /// The moment by which it acts, in microseconds since the node began.
+    /// Its due moment, in microseconds since the node began.
     pub due: u64,
     /// The number of its slot.
     pub slot: u16,

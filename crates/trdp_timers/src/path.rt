@@ -98,7 +98,7 @@ fn first_below(keys: &[usize], orders: &[Option<Order>], place: usize, probes: &
 }
 
 /// Exchanges the key at a place with the first of those below it until none is below it, and
-/// tells the place where it stands then. It isn't compared on the way: a key that acts later
+/// returns the place where it is then. It isn't compared on the way: a key that acts later
 /// than before mostly acts late, so that it has little to rise from there.
 pub fn sink(
     keys: &mut [usize],

@@ -14,7 +14,8 @@ use std::marker::Model;
 
 /// When the objects of a node act: an order for some of the keys below the room.
 ///
-/// Every call but `peek`, `room` and `probes` sets the number of comparisons that `probes` tells.
+/// Every call but `peek`, `room` and `probes` sets the number of comparisons that `probes`
+/// returns.
 #[derive(Drop)]
 pub struct Timers {
     /// The order of each key below the room; None for a key that has none.
@@ -49,10 +50,10 @@ fn no_places(alloc: Global, room: usize) -> Result<Vec<usize>, AllocError>
 }
 
 impl Timers {
-    /// Timers for the keys below `room`, none of which has an order; `probes` tells 0.
+    /// Timers for the keys below `room`, none of which has an order; `probes` returns 0.
     ///
     /// # Errors
-    /// [`AllocError`] where there is no memory for so many keys.
+    /// [`AllocError`] where there is no memory for that many keys.
     pub fn with_room(alloc: Global, room: usize) -> Result<Timers, AllocError>
         ensures room { IfOk result (λ timers. timers.orders ≡ replicate room None) }
         ensures cost { IfOk result (λ timers. timers.probes ≡ 0) }
@@ -71,7 +72,7 @@ impl Timers {
     /// makes no comparison.
     ///
     /// # Errors
-    /// [`AllocError`] where there is no memory for so many keys; the room has not changed.
+    /// [`AllocError`] where there is no memory for that many keys; the room has not changed.
     pub fn grow(&mut self, room: usize) -> Result<(), AllocError>
         ensures orders { self.new.orders
             ≡ (if is_ok result
@@ -90,7 +91,8 @@ impl Timers {
     }
 
     /// Sets the order of a key below the room, in place of the one that it had. It takes no
-    /// memory, and at most `2 * b + 2` comparisons where fewer than `2^b` keys have an order then.
+    /// memory, and makes at most `2 * b + 2` comparisons where fewer than `2^b` keys have an order
+    /// then.
     pub fn set(&mut self, key: usize, order: Order)
         requires { key < length self.old.orders }
         ensures orders { self.new.orders ≡ slice_set self.old.orders key (Some order) }
@@ -105,9 +107,9 @@ impl Timers {
         self.heap.settle(&self.orders, place, was, &mut self.probes);
     }
 
-    /// Takes away the order of a key, if it has one; any other key is let be, also one that isn't
-    /// below the room. It takes at most `2 * b + 2` comparisons where fewer than `2^b` keys had an
-    /// order, and none where the key had none.
+    /// Removes the order of a key, if it has one; for any other key it does nothing, also for one
+    /// that isn't below the room. It makes at most `2 * b + 2` comparisons where fewer than `2^b`
+    /// keys had an order, and none where the key had none.
     pub fn clear(&mut self, key: usize)
         ensures orders { self.new.orders ≡ slice_set self.old.orders key None }
         ensures idle { slice_index_or self.old.orders key None ≡ None → self.new.probes ≡ 0 }
@@ -142,7 +144,7 @@ impl Timers {
         self.peek()
     }
 
-    /// What [`Timers::first`] gives. The comparisons that `probes` tells stay.
+    /// What [`Timers::first`] returns. The number that `probes` returns stays.
     pub fn peek(&self) -> Option<(usize, Order)>
         ensures { MatchOption result (IsUnset self.now.orders)
             (λ found. IsFirst self.now.orders found.0 found.1) }
@@ -155,8 +157,8 @@ impl Timers {
         Some((key, order))
     }
 
-    /// Takes away the order of a key that acts first, and gives both; of several keys with that
-    /// order any one. None where no key has an order. It takes at most `2 * b + 2` comparisons
+    /// Removes the order of a key that acts first, and returns both; of several keys with that
+    /// order any one. None where no key has an order. It makes at most `2 * b + 2` comparisons
     /// where fewer than `2^b` keys had an order.
     pub fn pop(&mut self) -> Option<(usize, Order)>
         ensures first { MatchOption result (IsUnset self.old.orders)
@@ -171,7 +173,8 @@ impl Timers {
     }
 
     /// The sizes, together, of the keys that are due by the moment t; a key has the size of its
-    /// index. It takes no memory, and at most `2 * k + 1` comparisons for k keys that are due.
+    /// index. It takes no memory, and makes at most `2 * k + 1` comparisons for k keys that are
+    /// due.
     pub fn due_total(&mut self, t: u64, sizes: &[usize]) -> u64
         requires sizes { length self.old.orders ≤ length sizes.now }
         requires fits { sum sizes.now < 2 ^ 64 }
@@ -183,7 +186,7 @@ impl Timers {
         self.due_totals(t, sizes, sizes).0
     }
 
-    /// The same of sizes of either kind, in one walk.
+    /// The same for two lists of sizes, in one walk.
     pub fn due_totals(&mut self, t: u64, first: &[usize], second: &[usize]) -> (u64, u64)
         requires first { length self.old.orders ≤ length first.now }
         requires first_fits { sum first.now < 2 ^ 64 }
@@ -208,8 +211,8 @@ impl Timers {
         self.orders.len()
     }
 
-    /// The comparisons of the latest call that sets this number. For `set`, `clear` and `pop` it is
-    /// bounded from above alone, but that `set` counts one at least.
+    /// The comparisons of the latest call that sets this number. For `set`, `clear` and `pop` it
+    /// has an upper bound alone, and for `set` it is at least 1.
     pub fn probes(&self) -> u64
         ensures { result ≡ self.now.probes }
     {

@@ -6,7 +6,7 @@ use clap::{Arg, ArgAction, ArgMatches, Command, Error, value_parser};
 use std::alloc::{AllocError, Global};
 use trdp_program::ServiceOptions;
 
-/// What stands below the help.
+/// The text below the help.
 const EXAMPLE: &str = "Example, with a configuration of this project:\n  \
      trdpd check examples/control/door.toml\n  \
      trdpd daemon examples/control/door.toml --totals 60\n\n\
@@ -30,7 +30,7 @@ pub enum Task<'a> {
     Serve {
         /// The path of the configuration file.
         path: &'a str,
-        /// What is asked for beside it.
+        /// What else it asks for.
         options: ServiceOptions<'a>,
         /// How many turns to take.
         turns: u32,
@@ -39,21 +39,23 @@ pub enum Task<'a> {
     Daemon {
         /// The path of the configuration file.
         path: &'a str,
-        /// What is asked for beside it.
+        /// What else it asks for.
         options: ServiceOptions<'a>,
-        /// How many seconds lie between two lines of totals; 0 for no line.
+        /// The seconds from one line of totals to the next; 0 for no line.
         seconds: u32,
     },
 }
 
-/// Reads the words of the command line, of which the first names the program: good is `check`,
-/// `run`, `serve` or `daemon` with a configuration file. Behind `serve` stands `--turns` with a
-/// number of 0 to 4,294,967,295, and behind `daemon` maybe `--totals` with such a number. Behind
-/// all but `run` maybe stands `--controls` with a folder, and behind `serve` and `daemon` maybe
-/// `--lease` with a number of 1 to 86,400.
+/// Reads the words of the command line, of which the first names the program. Good words are
+/// `check`, `run`, `serve` or `daemon` with a configuration file, and these:
+/// - `serve` has `--turns` with a number of 0 to 4,294,967,295, and `daemon` may have `--totals`
+///   with such a number;
+/// - all but `run` may have `--controls` with a folder;
+/// - `serve` and `daemon` may have `--lease` with a number of 1 to 86,400.
 ///
-/// The error's text is for the user. Its kind tells want of memory from wrong words, and from a
-/// wish for help or for the version.
+/// # Errors
+/// The text is for the user. The kind is `OutOfMemory` where an allocation fails, `DisplayHelp`
+/// and `DisplayVersion` at a request for help or for the version, and another for wrong words.
 pub fn read_words<'a>(alloc: Global, words: &'a [String]) -> Result<Task<'a>, Error> {
     let matches = command(alloc)?.try_get_matches_from(words)?;
     Ok(task_of(&matches))
@@ -96,7 +98,7 @@ fn path_of<'a>(words: Option<&ArgMatches<'a>>) -> &'a str {
     }
 }
 
-/// What the words of a service ask for beside its configuration.
+/// What the words of a service ask for, other than its configuration.
 fn options_of<'a>(words: &ArgMatches<'a>) -> ServiceOptions<'a> {
     ServiceOptions {
         folder: words.get_str("controls"),
@@ -137,7 +139,7 @@ fn command<'a>(alloc: Global) -> Result<Command<'a>, AllocError> {
         .subcommand(daemon(alloc)?)
 }
 
-/// The words that a daemon is asked for by.
+/// The words that ask for a daemon.
 fn daemon<'a>(alloc: Global) -> Result<Command<'a>, AllocError> {
     let totals = Arg::new(alloc, "totals")
         .long("totals")

@@ -1,51 +1,46 @@
 //! The program `trdpd`: a communication node, whose events come from a script or from a network.
 //!
-//! `trdpd check CONFIG` says what the configuration in the file CONFIG (TOML) means and what its
-//! author may not have meant, on standard output.
+//! - `trdpd check CONFIG` says on standard output what the configuration in the file CONFIG (TOML)
+//!   means, and what its author may not have meant.
+//! - `trdpd run CONFIG` reads the configuration and, where nothing is wrong with it, the script
+//!   from standard input. What the node gives its slots goes to standard output.
+//! - `trdpd serve CONFIG --turns N` reads the configuration in the same way, binds the node's UDP
+//!   ports at its address, and takes N turns without sleeping. Then `taken T offered O lost L
+//!   unread U memory M` goes to standard output. T datagrams came and O were offered to the
+//!   network, which refused L of these; U takes failed, and M things were lost because an
+//!   allocation failed.
+//! - `trdpd daemon CONFIG` does the same until it is stopped: between two turns it rests until a
+//!   datagram comes or something is due. With `--totals SECONDS` the line of its totals so far
+//!   goes to standard output with the first turn that begins that many seconds after that of the
+//!   line before. To standard error go first the words of a check and then, at most once a second,
+//!   what the network refused. Neither stream can stop it: what one doesn't take at once is left
+//!   out.
+//! - `trdpd --version` says which program this is, and with which logic it was proved.
 //!
-//! `trdpd run CONFIG` reads the configuration of a node from the file CONFIG (TOML), and where
-//! nothing is wrong with it the script from standard input. What the node gives its slots goes to
-//! standard output.
-//!
-//! `trdpd serve CONFIG --turns N` reads the configuration in the same way, binds the node's UDP
-//! ports at its address, and takes N turns without sleeping. Then `taken T offered O lost L unread
-//! U memory M` goes to standard output: the datagrams that came, those that were offered to the
-//! network, how many of these it refused, the takes that failed, and what was lost for want of
-//! memory.
-//!
-//! `trdpd daemon CONFIG` does the same until it is stopped: between two turns it rests until a
-//! datagram comes or something is due. With `--totals SECONDS` the line of its totals so far goes
-//! to standard output with the first turn that begins so many seconds behind that of the line
-//! before. It begins with the words of a check, on standard error, and tells there at most once a
-//! second what the network refused. Nothing that becomes of these two streams stops it: what one
-//! doesn't take at once is left out.
-//!
-//! With `--controls FOLDER` the control ports and the operator's are Unix stream sockets of the
-//! folder, files that have the port's number as their name, and no UDP ports; `check` takes these
-//! words too. With `--lease SECONDS` a slot begins anew whose application said nothing for so long.
-//!
-//! `trdpd --version` says which program this is, and by which logic it was proved, on standard
-//! output.
+//! With `--controls FOLDER` the control ports and the operator's are Unix stream sockets in the
+//! folder, files that have the port's number as their name, and no UDP ports; `check` accepts
+//! these words too. With `--lease SECONDS` a slot is reset whose application said nothing for that
+//! long.
 //!
 //! The exit status is
 //! - 0 at the script's end, after the last turn, for a configuration without a fault, and for the
 //!   version;
-//! - 1 where the configuration isn't taken, with `config fault NAME` on standard error. Behind
-//!   the name stands the key of a Missing or WrongType and the number of a dataset for NoDataset;
-//!   a check and a daemon say behind that line where each fault is, and what is wanted there.
-//!   A file that can't be read is `config fault Unreadable`, and want of memory while it is read
-//!   `config fault OutOfMemory`; a check and a daemon say in a second line which file, and why;
+//! - 1 where the configuration is rejected, with `config fault NAME` on standard error, followed
+//!   by the key of a Missing or WrongType, or by the number of a dataset for NoDataset. A check
+//!   and a daemon say after that line where each fault is, and what is expected there. A file that
+//!   can't be read is `config fault Unreadable`, or `config fault OutOfMemory` where an allocation
+//!   fails while it is read; a check and a daemon say in a second line which file, and why;
 //! - 2 for other words, with the usage;
 //! - 3 for a bad line, with `line N fault NAME`;
 //! - 4 after a `read fault`, a `write fault` or a `memory fault`, and after a `bind fault`, where
-//!   the system refuses a port. A daemon knows no `write fault`.
+//!   the system refuses a port. A daemon has no `write fault`.
 //!
-//! What it does in each case, with the exit status, is the contract of `trdp_program`'s
-//! `run_program`, `serve_with`, `check_program` and `report_daemon`: but for the words of a
-//! check, and for what the system's sockets and clock do. The functions here and in `command` have
-//! no clauses: how the command line is read is `clap`'s matter. How the file is read, and those
-//! words, are tested over this program (`bench/refused_runs.py`, `bench/config_words.py`); status 2
-//! and the usage text were tried by hand.
+//! **Proved**, in the contracts of `trdp_program`'s `run_program`, `serve_with`, `check_program`
+//! and `report_daemon`: what it does in each case, with the exit status, but for the words of a
+//! check and for what the system does. The functions here and in `command` have no clauses.
+//! **Tested** over this program: how the file is read, those words, the help and the version
+//! (`bench/refused_runs.py`, `bench/config_words.py`, `bench/command_words.py`). `clap` reads the
+//! command line; no test compares its texts about wrong words.
 #![tactic(auto)]
 
 mod command;
@@ -64,10 +59,10 @@ use trdp_program::{
 use trdp_script::ScriptFault;
 use version::{LOGIC, VERSION};
 
-/// The exit status of words that are no task, and of a wish for help (profile).
+/// The exit status of words that are no task, and of a request for help (profile).
 const USAGE_STATUS: u8 = 2;
 
-/// What is told of words that aren't text.
+/// What is printed for words that aren't text.
 const NO_TEXT: &str = "error: a word of the command line isn't valid UTF-8\n\n\
      Usage: trdpd <COMMAND>\n\n\
      For more information, try '--help'.\n";
@@ -76,7 +71,7 @@ fn main(rt: HostRuntime) -> ExitCode {
     ExitCode::from(status(&rt))
 }
 
-/// Reads the command line, does what it asks for, and answers the exit status.
+/// Reads the command line, does what it asks for, and returns the exit status.
 fn status(rt: &HostRuntime) -> u8 {
     match given_words(rt) {
         Ok(words) => match read_words(rt.alloc(), &words) {
@@ -103,14 +98,14 @@ fn status(rt: &HostRuntime) -> u8 {
     }
 }
 
-/// Says which program this is and what it was proved with, and answers the exit status.
+/// Says which program this is and what it was proved with, and returns the exit status.
 fn tell_version(rt: &impl Print) -> u8 {
     // What standard output does with the text changes nothing.
     let _ = println!(rt; "trdpd {VERSION}, proved with logic {LOGIC}");
     0
 }
 
-/// Says what the configuration of a file means, and answers the exit status.
+/// Says what the configuration of a file means, and returns the exit status.
 fn check_file(rt: &HostRuntime, path: &str, folder: Option<&str>) -> u8 {
     match read_file_or_say_why(rt, path) {
         Some(config) => check_program(
@@ -124,7 +119,7 @@ fn check_file(rt: &HostRuntime, path: &str, folder: Option<&str>) -> u8 {
     }
 }
 
-/// Runs the script at standard input over the configuration of a file, and answers the exit
+/// Runs the script at standard input over the configuration of a file, and returns the exit
 /// status.
 fn run_file(rt: &HostRuntime, path: &str) -> u8 {
     match read_file(rt, path) {
@@ -139,7 +134,7 @@ fn run_file(rt: &HostRuntime, path: &str) -> u8 {
     }
 }
 
-/// Serves the configuration of a file for so many turns, and answers the exit status.
+/// Serves the configuration of a file for `turns` turns, and returns the exit status.
 fn serve_file(rt: &HostRuntime, path: &str, options: ServiceOptions, turns: u32) -> u8 {
     match read_file(rt, path) {
         Some(config) => serve_with(
@@ -154,7 +149,7 @@ fn serve_file(rt: &HostRuntime, path: &str, options: ServiceOptions, turns: u32)
     }
 }
 
-/// Serves the configuration of a file until the program is stopped, and answers the exit status.
+/// Serves the configuration of a file until the program is stopped, and returns the exit status.
 /// Neither standard output nor standard error can make it wait.
 fn attend_file(rt: &HostRuntime, path: &str, options: ServiceOptions, seconds: u32) -> u8 {
     match read_file_or_say_why(rt, path) {
@@ -170,7 +165,7 @@ fn attend_file(rt: &HostRuntime, path: &str, options: ServiceOptions, seconds: u
     }
 }
 
-/// Reads the configuration's file, or tells that this can't be done.
+/// Reads the configuration's file; None, and a line on standard error, where that fails.
 fn read_file(rt: &HostRuntime, path: &str) -> Option<Vec<u8>> {
     match fs::read(rt, path) {
         Ok(config) => Some(config),
@@ -181,7 +176,8 @@ fn read_file(rt: &HostRuntime, path: &str) -> Option<Vec<u8>> {
     }
 }
 
-/// Reads the configuration's file, or tells that this can't be done, and in a second line why.
+/// Reads the configuration's file; None, a line on standard error, and a second that says why,
+/// where that fails.
 fn read_file_or_say_why(rt: &HostRuntime, path: &str) -> Option<Vec<u8>> {
     match fs::read(rt, path) {
         Ok(config) => Some(config),
@@ -194,7 +190,7 @@ fn read_file_or_say_why(rt: &HostRuntime, path: &str) -> Option<Vec<u8>> {
     }
 }
 
-/// Tells in a line that a configuration's file can't be read.
+/// Prints in a line that a configuration's file can't be read.
 fn tell_unread(rt: &HostRuntime, error: &io::Error) {
     if error.kind() == io::ErrorKind::OutOfMemory {
         tell(rt, ConfigFaultText(ConfigFault::OutOfMemory));
@@ -203,7 +199,7 @@ fn tell_unread(rt: &HostRuntime, error: &io::Error) {
     }
 }
 
-/// Tells a fault in a line of its own.
+/// Prints a fault in a line of its own.
 fn tell<D: Display + Drop>(rt: &impl Eprint, fault: D) {
     // What standard error does with the text changes nothing.
     let _ = rt.eprintln(fault);
@@ -214,7 +210,7 @@ fn given_words(rt: &HostRuntime) -> io::Result<Vec<String>> {
     Ok(env::args(rt)?.collect(rt.alloc())?)
 }
 
-/// Prints why the words can't be followed, and answers the exit status.
+/// Prints why the words can't be followed, and returns the exit status.
 fn refuse<D: Display + Drop>(rt: &impl Eprint, error: D, is_out_of_memory: bool) -> u8 {
     if is_out_of_memory {
         tell(rt, ScriptFaultText(ScriptFault::OutOfMemory));

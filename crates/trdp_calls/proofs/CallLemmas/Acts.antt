@@ -1,6 +1,6 @@
--- What a call at one object makes of the table and the outbox.
--- For `ask`, `put_value` and `serve_slot`, and for what the engine hands on.
--- By: the handle has an object, which acts, or has none, which is told.
+-- How a call at one object changes the table and the outbox.
+-- For `ask`, `put_value` and `serve_slot`, and for what the engine passes on.
+-- By: the handle has an object, which acts, or has none, which is recorded.
 use Rattle.std.proofs.Common.{◌≡◌, ℕ, ◌<◌, List, [], ◌∷◌, ◌++◌, length, Option, Some}
 use Rattle.std.proofs.Common.{None, Bool, true, false, refl, ◌∙◌, sym, ap, subst, arith}
 use Rattle.std.proofs.Common.{is_some, IfNone}

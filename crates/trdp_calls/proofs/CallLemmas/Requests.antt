@@ -1,6 +1,6 @@
 -- A request that a slot sends.
 -- For `request`.
--- By: what isn't refused finds a place for its caller, whose handle is the answer.
+-- By: where the request isn't refused there is room for its caller, whose handle is the answer.
 use Rattle.std.proofs.Common.{◌≡◌, ℕ, List, [], ◌∷◌, ◌++◌, length}
 use Rattle.std.proofs.Common.{Option, Some, None, Bool, true, false}
 use Rattle.std.proofs.Common.{refl, ◌∙◌, sym, ap, append_assoc}
@@ -54,7 +54,7 @@ first_none : (first second : Option Refusal) → option_or first second ≡ None
 first_none (Some refusal) second is = absurd (cc)
 first_none None second is = refl
 
--- a request that isn't refused finds a place for its caller
+-- for a request that isn't refused there is room for its caller
 pub request_opens : (slot : SlotState) (globals : Globals) (terms : CallerTerms) (payload : List ℕ)
     → request_refusal slot globals terms payload ≡ None → opening_refusal slot kind.Caller ≡ None
 request_opens slot globals terms payload is =

@@ -1,4 +1,4 @@
--- What decoding answers for a subscription that shows a value of its dataset.
+-- What decoding returns for a subscription that shows a value of its dataset.
 -- For `item_shown`.
 -- By: the bytes fit their dataset, so that of all faults only a missing dataset is left.
 use Rattle.std.proofs.Common.{◌≡◌, ℕ, List, Some, None, Option, Bool, true, false, Ok, Err, refl}
@@ -91,7 +91,7 @@ shows_none setup s registry dataset bytes fit given is =
     rw (is_zero (s.terms.dataset == 0) _ (given_fault setup s registry dataset bytes fit given) is)
     refl
 
--- memory may be wanting for the item
+-- an allocation for the item may fail
 pub lacks_memory : (setup : NodeSetup) (s : SubscriptionState) (registry : List DatasetModel)
     (dataset : ℕ) (bytes : List ℕ) → ShowsFitting setup s → IsGiven setup s registry dataset bytes
     → decode_fault registry dataset bytes ≡ None → ShowsItem setup (showing s) (Err OutOfMemory)

@@ -1,6 +1,6 @@
 -- What acts cost, one and several, and that the room stays.
 -- For `take_all` and `ask_all`, and for the engine's `fire_all`.
--- By: an act changes no quota, and each taker adds its own.
+-- By: an act changes no quota, and each receiver adds its own.
 use Rattle.std.proofs.Common.{◌≡◌, ℕ, zero, suc, ◌+◌, ◌*◌, ◌^◌, ◌<◌, ◌≤◌, List, [], ◌∷◌, length}
 use Rattle.std.proofs.Common.{◌∙◌, ap, sym, arith}
 use Rattle.std.proofs.Common.{Option, Some, None, IfSome}
@@ -74,7 +74,7 @@ pub compared_still : (did : Option (Left × ℕ)) (room b : ℕ)
 compared_still None room b within lt = omega arith
 compared_still (Some did) room b within lt = within tt b lt
 
--- The takers of a telegram, one after the other.
+-- The receivers of a telegram, one after the other.
 
 pub one_taker : (now tested before first i b : ℕ) → now ≤ tested + (2 * b + 2)
     → tested ≡ before → before ≤ first + i * (2 * b + 2) → now ≤ first + (i + 1) * (2 * b + 2)

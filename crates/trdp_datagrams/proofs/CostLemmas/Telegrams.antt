@@ -1,7 +1,7 @@
--- What a telegram costs, by the objects that it may be for.
+-- What a telegram costs, in terms of the objects that it may be for.
 -- For `note_all`, `note_parts`, `note_hearers`, `ask_all`, `step_datagram` and `step_moment`, and
 -- for `CostLemmas.Sessions`.
--- By: each row that is walked and each key that is asked for is that of such an object.
+-- By: each row that is walked and each key that is looked up is that of such an object.
 use Rattle.std.proofs.Common.{◌≡◌, ℕ, ◌+◌, ◌<◌, ◌≤◌, List, [], ◌∷◌, length, map, drop, cond, Option}
 use Rattle.std.proofs.Common.{Some, None, Bool, true, false, refl, ◌∙◌, sym, ap, arith}
 use Rattle.std.specs.Prelude.{◌==◌, ◌||◌, slice_get}

@@ -1,6 +1,6 @@
 -- The loop over the listeners that were noted for a request.
 -- For `ask_all`.
--- By the loop's invariant: what is left to do leads to what the request makes of all slots.
+-- By the loop's invariant: what is left to do leads to all slots as the request changes them.
 use Rattle.std.proofs.Common.{suc, ◌≡◌, ℕ, ◌+◌, ◌<◌, ◌≤◌, List, [], ◌∷◌, ◌++◌, length, map}
 use Rattle.std.proofs.Common.{get_or, drop, drop-cons, Option, Some, None, true, refl, ◌∙◌, sym, ap}
 use Rattle.std.proofs.Common.{subst, arith, append_assoc}
@@ -32,14 +32,14 @@ use Rattle.trdp_datagrams.proofs.NoteLemmas.Noted.{same_room, acting_in}
 use Rattle.trdp_datagrams.proofs.DatagramLemmas.Handed.{AreRising, slot_of_front, set_front}
 use Rattle.trdp_model.proofs.SweepLemmas.{all_records}
 
--- a request, and the slots and the records that it is to lead to
+-- a request, and the slots and the records that it leads to
 pub record Request : Type 0 where
   pub telegram : TelegramModel
   pub globals : Globals
   pub slots : List SlotState
   pub records : List RecordModel
 
--- what it makes of a slot
+-- how it changes a slot
 abbrev pub outcome_of : Request → SlotState → Outcome
 outcome_of request slot = requested slot request.globals request.telegram
 
@@ -59,8 +59,8 @@ pub record IsHeard (request : Request) (slots : List SlotState) (a : Addressed) 
   pub rows : room.rows ≡ 1 + more.rows
   pub bytes : room.bytes ≡ 65388 + more.bytes
 
--- the slots of those that were noted get it in turn, within the room, and all come to what it is
--- to lead to
+-- the slots of those that were noted get it in turn, within the room, and all reach what it leads
+-- to
 abbrev pub Asks : Request → List SlotState → List RecordModel → Room → List Addressed → Type 0
 Asks request slots records room [] = (slots ≡ request.slots) × (records ≡ request.records)
 Asks request slots records room (a ∷ rest) =
@@ -95,7 +95,7 @@ asks_slot request front slots x s records room later rest at (Some h) is rows by
   rw (set_front front slots x (outcome_of request x).slot s at) others,
 )
 
--- those noted of all slots from number s on lead to what the request makes of the slots
+-- those noted of all slots from number s on lead to the slots as the request changes them
 asks_from : (request : Request) (slots : List SlotState)
     (s : ℕ) (front : List SlotState) (records : List RecordModel) (room : Room)
     → comes_unasked request.telegram ≡ true → length front ≡ s → AreRising slots
@@ -138,7 +138,7 @@ asks_from request (x ∷ slots) s front records room unasked at rising within sl
     (rows ∙ ap (λ (r : Room). r.rows + later.rows) (sym own))
     (bytes ∙ ap (λ (r : Room). r.bytes + later.bytes) (sym own)) (rw over at others))
 
--- what a request is to lead to
+-- what a request leads to
 abbrev pub request_of :
     TelegramModel → Globals → List SlotState → List RecordModel → Request
 request_of telegram globals slots records = record {
@@ -210,7 +210,7 @@ asks_next request table out noted i a lt is goes =
     let one : i + 1 ≡ suc i = omega arith in
     rw one (rw split at goes)
 
--- at the end all have come there
+-- at the end all have reached it
 pub asks_end : (request : Request) (table : TableState) (out : OutboxState)
     (noted : List Addressed) (i : ℕ)
     → length noted ≤ i → GoesAsking request table out (drop i noted)

@@ -1,4 +1,4 @@
--- What a deed of an object of the store comes to for those that have it done.
+-- What a deed of an object of the store results in for its callers.
 -- For `take_all` and `fire_all`.
 -- By: the store's contract names the one object that acted, and what became of it.
 use Rattle.std.proofs.Common.{◌≡◌, ℕ, Option, Some, None}

@@ -1,4 +1,4 @@
--- The objects that were noted take the telegram, one after the other.
+-- The objects that were noted receive the telegram, one after the other.
 -- For `take_all`, through `DatagramLemmas.HandedInTurn`.
 -- By induction on the slots, and on the objects of one: an act leaves those of higher handles.
 use Rattle.std.proofs.Common.{zero, suc, ◌≡◌, ℕ, ◌+◌, ◌<◌, List, [], ◌∷◌, ◌++◌}
@@ -52,7 +52,7 @@ acted_first left e es above =
     flat_map-cons (left_at e.handle left) e es
     ∙ rw (same, acted-above e.handle left es above) refl
 
--- what is left of an object stands where the object stood
+-- what is left of an object is in the place of the object
 acted_there : (left : Option AnyObject) (front es : List Entry) (e : Entry)
     → IsRising (front ++ e ∷ es)
     → acted e.handle left (front ++ e ∷ es) ≡ front ++ (entry_left e left ++ es)
@@ -106,7 +106,7 @@ set_front (z ∷ front) back x y (suc s) is =
 
 -- The noted objects, in turn.
 
--- a telegram, and the slots and the records that it is to lead to
+-- a telegram, and the slots and the records that it leads to
 pub record Aim : Type 0 where
   pub setup : NodeSetup
   pub telegram : TelegramModel
@@ -128,7 +128,7 @@ acting_is_for : (aim : Aim) (all : List Entry) (e : Entry)
     → is_for_entry aim.telegram aim.globals e ≡ true
 acting_is_for aim all e is = and_left (is_for_entry aim.telegram aim.globals e) _ is
 
--- the records of objects that take it
+-- the records of objects that receive it
 abbrev records_for : Aim → List Entry → List Content
 records_for aim entries = flat_map (λ entry. (act_in aim entry).records) entries
 
@@ -146,7 +146,7 @@ pub record IsNext (aim : Aim) (slots : List SlotState)
   pub rows : room.rows ≡ (kind_room (kind_of entry.object)).rows + more.rows
   pub bytes : room.bytes ≡ (kind_room (kind_of entry.object)).bytes + more.bytes
 
--- those that were noted take the telegram in turn, within the room, and reach the aim
+-- those that were noted receive the telegram in turn, within the room, and reach the aim
 abbrev pub Leads : Aim → List SlotState → List RecordModel → Room → List Addressed → Type 0
 Leads aim slots records room [] = (slots ≡ aim.slots) × (records ≡ aim.records)
 Leads aim slots records room (a ∷ rest) =
@@ -159,7 +159,7 @@ Leads aim slots records room (a ∷ rest) =
 abbrev slot_with : SlotState → List Entry → SlotState
 slot_with slot objects = record slot { objects = objects }
 
--- a slot stands at s behind others, and after it the rest of those that were noted take the
+-- a slot has number s, after others, and after it the rest of those that were noted receive the
 -- telegram
 record Place : Type 0 where
   s : ℕ
@@ -206,7 +206,7 @@ led_other aim place e es is others done records room rising rows bytes leads =
     room (rw whole rising) rows_is bytes_is (rw still leads_then) in
     rw is (rw whole at led)
 
--- the next one takes it
+-- the next one receives it
 led_one : (aim : Aim) (place : Place) (e : Entry) (es : List Entry)
     → is_acting aim.telegram aim.globals place.slot.objects e ≡ true
     → Led aim place es → Led aim place (e ∷ es)
@@ -274,7 +274,7 @@ led_slot aim place (e ∷ es) =
 abbrev pub AreRising : List SlotState → Type 0
 AreRising slots = (i : ℕ) (slot : SlotState) → slice_get slots i ≡ Some slot → IsRising slot.objects
 
--- what the telegram makes of a slot
+-- how the telegram changes a slot
 abbrev outcome_in : Aim → SlotState → Outcome
 outcome_in aim slot = handed aim.setup slot aim.globals aim.telegram
 
@@ -282,7 +282,7 @@ outcome_in aim slot = handed aim.setup slot aim.globals aim.telegram
 abbrev all_acting : Aim → List SlotState → List Entry
 all_acting aim slots = flat_map (λ slot. acting aim.telegram aim.globals slot.objects) slots
 
--- those noted of all slots from number s on lead to what the telegram makes of the slots
+-- those noted of all slots from number s on lead to the slots as the telegram changes them
 led_from : (aim : Aim) (slots : List SlotState)
     (s : ℕ) (front : List SlotState) (records : List RecordModel) (room : Room)
     → length front ≡ s → AreRising slots → room ≡ entries_room (all_acting aim slots)
@@ -325,7 +325,7 @@ led_from aim (x ∷ slots) s front records room at rising within slots_are recor
     later count (λ i slot is. rising (suc i) slot is) refl slots_then records_then in
     led_slot aim place x.objects [] records room (rising 0 x refl) rows bytes (rw over at others)
 
--- what a telegram is to lead to
+-- what a telegram leads to
 abbrev pub aim_of : NodeSetup → TelegramModel → Globals → List SlotState → List RecordModel → Aim
 aim_of setup telegram globals slots records = record {
   setup = setup;
@@ -335,7 +335,7 @@ aim_of setup telegram globals slots records = record {
   records = records ++ all_records 0 (λ slot. handed setup slot globals telegram) slots;
 }
 
--- those that were noted lead to what the telegram makes of the slots
+-- those that were noted lead to the slots as the telegram changes them
 pub all_led : (setup : NodeSetup) (telegram : TelegramModel)
     (globals : Globals) (slots : List SlotState) (records : List RecordModel)
     → AreRising slots → Leads (aim_of setup telegram globals slots records)

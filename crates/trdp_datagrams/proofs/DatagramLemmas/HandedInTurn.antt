@@ -1,6 +1,6 @@
 -- The loop over the objects that were noted.
 -- For `take_all` and `ask_all`.
--- By the loop's invariant: what is left to do leads to what the telegram makes of all slots.
+-- By the loop's invariant: what is left to do leads to all slots as the telegram changes them.
 use Rattle.std.proofs.Common.{suc, ◌≡◌, ℕ, ◌+◌, ◌<◌, ◌≤◌, List, [], ◌∷◌, ◌++◌, length, map}
 use Rattle.std.proofs.Common.{get_or}
 use Rattle.std.proofs.Common.{drop, drop-cons, Some, true, ◌∙◌, sym, ap, subst, arith}

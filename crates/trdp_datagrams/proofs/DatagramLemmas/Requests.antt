@@ -1,6 +1,6 @@
--- What a slot makes of a request that its listener hears.
+-- What a slot does with a request that its listener hears.
 -- For `ask`.
--- By cases: the session is open already, a replier is opened for it, or there is no place for one.
+-- By cases: the session is open already, a replier is opened for it, or there is no room for one.
 use Rattle.std.proofs.Common.{◌≡◌, ℕ, ◌<◌, [], ◌∷◌, ◌++◌, length}
 use Rattle.std.proofs.Common.{Option, Some, None, true, false}
 use Rattle.std.proofs.Common.{◌∙◌, sym, ap}

@@ -1,6 +1,6 @@
 -- A telegram and the objects that act at it; one that concerns no object changes nothing.
--- For `Handing`'s `on`, and for `DatagramLemmas.Admitted`.
--- By cases on what an object did with it, which tells the object's kind and so its room.
+-- For `Handing`'s `on`, and for `NodeLemmas.Admitted` of `trdp_engine`.
+-- By cases on what an object did with it, which determines the object's kind and so its room.
 use Rattle.std.proofs.Common.{◌≡◌, List, [], ◌∷◌, Bool, true, false, Some}
 use Rattle.std.proofs.Common.{None, refl, ◌∙◌, arith, inl, inr}
 use Rattle.std.specs.Prelude.{◌&&◌}
@@ -46,7 +46,7 @@ use Rattle.trdp_model.specs.Datagrams.{is_for_entry, acting}
 use Rattle.trdp_outbox.specs.Outboxes.{OutboxState}
 use Rattle.trdp_outbox.specs.Rooms.{LacksRoom, entries_room}
 
--- where a telegram of matching counts concerns no slot, no object acts at it
+-- where a telegram with matching topology counters concerns no slot, no object acts at it
 unconcerned_all : (telegram : TelegramModel) (globals : Globals) (slots : List SlotState)
     → is_valid_at globals telegram ≡ true → list_any (concerns globals (Some telegram)) slots
     ≡ false → flat_map (λ slot. acting telegram globals slot.objects) slots ≡ []
@@ -63,7 +63,7 @@ unconcerned_all telegram globals (x ∷ slots) valid none =
     ∙ rw (none_acts telegram globals x.objects x.objects none_of)
     (unconcerned_all telegram globals slots valid rest)
 
--- where room may be wanting for a telegram, it concerns a slot
+-- where the room for a telegram may be missing, it concerns a slot
 pub lacking_concerns : (telegram : TelegramModel) (globals : Globals) (slots : List SlotState)
     (out : OutboxState) → is_valid_at globals telegram ≡ true
     → LacksRoom out (entries_room (flat_map (λ slot. acting telegram globals slot.objects) slots))
@@ -135,7 +135,7 @@ replier_takes :
 replier_takes r src dst telegram globals fits true is = rw is refl
 replier_takes r src dst telegram globals fits false is = rw is tt
 
--- what an object did with a telegram tells its kind
+-- what an object did with a telegram determines its kind
 pub taken_by : (object : AnyObject) (telegram : TelegramModel) (globals : Globals) (fits : Bool)
     → IsTakenBy (kind_of object) (taken object telegram globals fits)
 taken_by (Publisher p) (PdIs src dst telegram) globals fits =

@@ -1,4 +1,4 @@
--- The objects that process data is for stand in the run of one comId.
+-- The objects that process data is for are in the run of one comId.
 -- For `note_run`, `note_all` and `hearers`.
 -- By induction on the rows: those that are hit are those that act, and no object outside is.
 use Rattle.trdp_store.proofs.StoreLemmas.Keys.{KeysTell}
@@ -307,7 +307,7 @@ pub run_room : (table : TableState) (src dst : Place) (t : PdTelegram) (globals 
 run_room table src dst t globals tell =
     ap entries_room (sym (all_hits table 0 src dst t globals table (keyed_slots table tell)))
 
--- What the object of a row's key is to a telegram.
+-- Whether a telegram is for the object of a row's key.
 
 pub hit_gone : (telegram : TelegramModel) (globals : Globals) (table : TableState) (row : ComRow)
     → None ≡ option_map (λ keyed. keyed.object) (by_key row.key (all_objects table))

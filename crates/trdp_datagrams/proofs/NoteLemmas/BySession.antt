@@ -1,6 +1,7 @@
 -- A message of a session is for one object of a slot at most: the one that is in it.
--- For `note_part`, and for `ActLemmas.Deeds` and `NoteLemmas.ByCom`.
--- By cases on the kind of message: who awaits it is in its session, in the role that it names.
+-- For `note_part`, and for `DatagramLemmas.Deeds`, `NoteLemmas.ByCom` and `ListenersAlone`.
+-- By cases on the kind of message: the object that awaits it is in its session, in the role that
+-- it names.
 use Rattle.std.proofs.Common.{◌≡◌, ◌≢◌, ℕ, zero, suc, ◌<◌, List, [], ◌∷◌, map, filter, Option, Some}
 use Rattle.std.proofs.Common.{None, Bool, true, false, refl, ◌∙◌, sym, ap, subst, arith}
 use Rattle.std.specs.Prelude.{slice_get, ◌==◌, ◌&&◌, option_map}
@@ -145,7 +146,7 @@ unheard telegram globals own part e = by_kind e.object
 
 -- The one of a handle.
 
--- those of the object that there may be which pass
+-- a list of the object, if there is one and it passes
 abbrev pub passing : (Entry → Bool) → Option Entry → List Entry
 passing test None = []
 passing test (Some entry) = filter test (entry ∷ [])

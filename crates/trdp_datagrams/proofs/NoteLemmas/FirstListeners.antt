@@ -158,8 +158,8 @@ any_or_its_own l src dst head globals for = of l.filter.com_id
     of (Some c) is test = inr (is ∙ ap Some (same_wanted c
         head.com_id (sym (ap (λ (o : Option ℕ). is_com_id o head.com_id) is) ∙ test)))
 
--- what an object has to do with a message, in the two runs: it is of one of them and hears it, or
--- it is hit in neither
+-- an object and a message, in the two runs: it is in one of them and hears it, or it is hit in
+-- neither
 pub data Hears (src dst : Place) (t : MdTelegram) (globals : Globals) (e : Keyed) : Type 0 where
   InOwn : is_addressed e.object (MdIs src dst t) globals ≡ true
       → is_listening (entry_of_keyed e) ≡ true → is_listed (Some t.head.com_id) e.object ≡ true
@@ -222,7 +222,7 @@ hears src dst t globals e = by_kind e.object refl
 
 -- The first of one slot.
 
--- one row more in front
+-- one more row in front
 pub first_listed : (telegram : TelegramModel) (globals : Globals) (table : TableState) (s : ℕ)
     (com_id : Option ℕ) (k : Keyed) (ks : List Keyed) → by_key k.key (all_objects table) ≡ Some k
     → is_listed com_id k.object ≡ true → is_addressed k.object telegram globals ≡ true

@@ -1,6 +1,6 @@
--- The first listener of a slot that a message is for stands in the runs of its comId and of any.
+-- The first listener of a slot that a message is for is in the run of its comId or in that of any.
 -- For `hear_row`, `hear_run` and `hearers`.
--- By: each listener stands in one of both runs, so the lesser of their firsts is the first of all.
+-- By: each listener is in one of both runs, so the lesser of their firsts is the first of all.
 use Rattle.std.proofs.Common.{◌≡◌, inl, inr, ℕ, zero, suc, ◌+◌, ◌<◌, ◌≤◌, List, []}
 use Rattle.std.proofs.Common.{◌∷◌, ◌++◌, length, map, drop, Option, Some, None}
 use Rattle.std.proofs.Common.{Bool, true, false, refl, ◌∙◌, sym, ap, arith}
@@ -147,7 +147,7 @@ heard_row telegram globals table xs row s lt = elim (cases_eq row.slot s) [
       ∙ sym (rw test (earlier-none (get_or xs s None)))
 ]
 
--- rows name slots that there are
+-- rows name present slots
 pub row_slot : (b : ℕ) (com_id : Option ℕ) (slots : TableState) (i : ℕ) (row : ComRow)
     → slice_get (rows_from b com_id slots) i ≡ Some row → row.slot < b + length slots
 row_slot b com_id [] i row at = absurd (none-some row at)
@@ -219,7 +219,7 @@ none_noted zero s = refl
 none_noted (suc n) zero = refl
 none_noted (suc n) (suc s) = none_noted n s
 
--- both runs tell who hears
+-- both runs determine which listener hears
 pub heard_by_both : (table : TableState) (s : ℕ)
     (src dst : Place) (t : MdTelegram) (globals : Globals) (tell : KeysTell table)
     → HandlesRise (slot_in s table).objects → (none once twice : List (Option ℕ))

@@ -85,7 +85,7 @@ for_listeners_alone e (MdIs src dst t) globals unasked for = by_kind e.object re
     by_kind (Replier r) is = absurd (false≢true (sym (confirms_none t.head.kind unasked)
         ∙ replier_confirm r src t.head (of (Replier r) is)))
 
--- who is noted of a slot
+-- which listener of a slot is noted
 
 not_for : (e : Entry) (telegram : TelegramModel) (globals : Globals)
     → comes_unasked telegram ≡ true → (is_listening e && is_for_entry telegram globals e) ≡ false

@@ -1,4 +1,4 @@
--- The objects that act at a telegram are noted, slot by slot, with room for what they may give.
+-- The objects that act at a telegram are noted, slot by slot, with room for what they may record.
 -- For `note_parts` and `note_hearers`, and for all other lemmas on what is noted.
 -- By a loop's invariant: what was noted, and those of the slots to come, are all.
 use Rattle.std.proofs.Common.{zero, suc, ◌≡◌, ℕ, ◌+◌, ◌<◌, ◌≤◌, List, [], ◌∷◌, ◌++◌, length}
@@ -49,7 +49,7 @@ same_room a b rows bytes =
     ap (λ (n : ℕ). let r : Room = record { rows = n; bytes = a.bytes } in r) rows
     ∙ ap (λ (n : ℕ). let r : Room = record { rows = b.rows; bytes = n } in r) bytes
 
--- these and these entries still to come are all, noted behind what was noted and with their room
+-- these and the entries still to come are all, noted after what was noted and with their room
 pub record Notes (before noted : List Addressed) (room : Room) (next : List Addressed)
     (later : Room) (last : List Addressed) (all : Room) : Type 0 where
   pub items : noted ++ next ≡ before ++ last

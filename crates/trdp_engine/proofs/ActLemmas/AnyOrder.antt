@@ -232,7 +232,7 @@ those-filter p objects rising = record {
 
 -- An object of the table acts.
 
--- what an act makes of its slot
+-- how an act changes its slot
 pub record IsActed (s h : ℕ) (act : Entry → Act)
     (table table_then : TableState) (out out_then : OutboxState) (entry : Entry) : Type 0 where
   pub there : s < length table_then

@@ -1,4 +1,4 @@
--- One slot of the table was served: what that comes to for each slot, and for the outbox.
+-- One slot of the table was served: what that means for each slot, and for the outbox.
 -- For `Node::step_call`, `step_datagram`, `step_moment`, `put_value`, and `parts`.
 -- By cases on the number: the slot that was served, or any other, which keeps what it had.
 use Rattle.std.proofs.Common.{◌≡◌, ℕ, ◌<◌, List, [], ◌∷◌, length, map, filter, refl}
@@ -41,7 +41,7 @@ became_parts f s table table_then out out_then lt is r slot there =
     rw (is.slots, is.records) (one_part f (slots_of table)
     s (slot_at s table) out.records (slot_there table s lt) r slot there)
 
--- the records of before stand first, and none is added for a number without slot
+-- the old records come first, and none is added for a number without slot
 pub became_appends :
     (f : SlotState → Outcome) (s : ℕ) (table table_then : TableState) (out out_then : OutboxState)
     → s < length table → Becomes s (f (slot_at s table)) table table_then out out_then
@@ -64,7 +64,7 @@ pub opened_slots : (table : TableState) (quotas : List (List ℕ))
     → slots_of table ≡ map (λ slot. empty_slot slot.quotas) slots
 opened_slots table quotas slots is are = rw (is, are) (opened_each slots)
 
--- where room is wanting at a moment, something is due
+-- where room is missing at a moment, something is due
 pub lacks_due : (t : ℕ) (slots : List SlotState) (out : OutboxState)
     → LacksRoom out (moment_room t slots) → 0 < due_in t slots
 lacks_due t slots out lacks = rw (← length-flat_map (λ slot. filter (is_due t) slot.objects) slots)

@@ -43,7 +43,7 @@ within_none counts most is = record {
   look_ups = omega (arith, ap (λ (c : Counts). c.look_ups) is);
 }
 
--- no count is within the bounds of every event
+-- counting nothing is within the bounds of every event
 pub bounded_none : (slots : List SlotState) (event : EventModel) (counts : Counts)
     → counts ≡ no_counts → IsBounded slots event counts
 bounded_none slots (MomentIs t) counts is = λ b lt. within_none counts _ is
@@ -53,7 +53,7 @@ bounded_none slots (DatagramIs protocol src dst bytes) counts is = λ b lt. with
 bounded_none slots (CallIs s call) counts is = λ b lt. within_none counts _ is
 bounded_none slots (AddSlotIs quotas) counts is = λ b lt. within_none counts _ is
 
--- the same of an event that was taken
+-- the same of an event that was accepted
 pub bounded_if : (result : Result (Unit {0}) NodeFault)
     (slots : List SlotState) (event : EventModel) (counts : Counts)
     → OnOk result (counts ≡ no_counts) → OnOk result (IsBounded slots event counts)

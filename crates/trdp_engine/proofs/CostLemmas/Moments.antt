@@ -1,4 +1,4 @@
--- What a moment costs, by the objects that are due.
+-- What a moment costs, in terms of the objects that are due.
 -- For `fire_all` and `step_moment`.
 -- By a loop's invariant: what was counted and what is left to count are within the bounds.
 use Rattle.std.proofs.Common.{◌≡◌, ℕ, zero, suc, ◌+◌, ◌*◌, ◌^◌, ◌<◌, ◌≤◌, List, [], ◌∷◌, length}
@@ -45,9 +45,9 @@ all_left globals (x ∷ xs) =
       sum_by-cons (λ (slot : SlotState). length (filter (is_due globals.now) slot.objects)) x xs,
     )
 
--- The counts of a moment that goes on.
+-- The cost of a moment that goes on.
 
--- what was counted, and what each object that is left may cost yet, is within the bounds
+-- what was counted, and what each object that is left may still cost, is within the bounds
 pub record IsCounting (globals : Globals) (start : TableState)
     (first : Counts) (table : TableState) (counts : Counts) : Type 0 where
   pub room_is : room_of table ≡ room_of start

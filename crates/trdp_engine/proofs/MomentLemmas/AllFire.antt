@@ -163,8 +163,8 @@ due_left globals table =
 
 -- The moment of all slots.
 
--- the table has the number of slots that it had at the start; what is left of each slot's moment
--- gives, after what was recorded, the slot's whole moment; and there is room for it
+-- the table has the number of slots that it had at the start; what was recorded, and then what is
+-- left of each slot's moment, is the slot's whole moment; and there is room for it
 pub record IsMoving (globals : Globals) (start : TableState) (records : List RecordModel)
     (table : TableState) (out : OutboxState) : Type 0 where
   pub count : length table ≡ length start
@@ -207,7 +207,7 @@ nexts globals start table records out sought moving next =
           sought.handle (moving.rising sought.slot lt) (moving.sound sought.slot lt) next.1,
     )
 
--- there is room for what one slot gives
+-- there is room for what one slot records
 one_of_all :
     (f : Entry → ℕ) (g : SlotState → List Entry) (slots : List SlotState) (s : ℕ) (x : SlotState)
     → slice_get slots s ≡ Some x → sum_by f (g x) ≤ sum_by f (flat_map g slots)
@@ -309,7 +309,7 @@ moves_on globals start table table_then records out out_then sought moving next 
         ∙ (get-set_other (slots_of table) s n (slot_at s table_then) differ
         ∙ slot_there table n within)))
 
-    -- what was true of the objects of each slot is so yet
+    -- what was true of the objects of each slot is still true
     objects_then : (P : List Entry → Type 0) → P (slot_at s table_then).objects
         → ((n : ℕ) → n < length start → P (slot_at n table).objects)
         → (n : ℕ) → n < length start → P (slot_at n table_then).objects

@@ -43,7 +43,7 @@ quiet_left t (Again head) entry object not = rw not refl
 quiet_left t Silent entry object not = rw not refl
 quiet_left t (Closed reason) entry object not = refl
 
--- nothing of a sound object that fired is due by now, under whichever handle it stands
+-- nothing of a sound object that fired is due by now, under any handle
 pub is_quiet : (globals : Globals) (entry : Entry) → is_sound entry.object ≡ true → (under : Entry)
     → filter (is_due globals.now) (entry_left under (firing_act globals entry).left) ≡ []
 is_quiet globals entry sound under = quiet_left globals.now (fired entry.object globals) under
@@ -317,7 +317,7 @@ fires_then globals slot rest entry rising next =
       next.order,
     ) refl
 
--- so is what the moment takes
+-- so is the room that the moment takes
 pub sum_then : (f : Entry → ℕ) (globals : Globals) (objects rest : List Entry) (entry : Entry)
     → IsNextOf globals.now objects rest entry → sum_by f (filter (is_due globals.now) objects)
     ≡ f entry + sum_by f (filter (is_due globals.now) (once_fired globals entry objects))

@@ -1,4 +1,4 @@
--- What a node makes of a datagram's bytes: a telegram whose topology counts match its own, or none.
+-- What a node reads in a datagram: a telegram whose topology counters match its own, or none.
 -- For `Node::step_datagram`.
 -- By the definitions, and by the length of a payload.
 use Rattle.std.proofs.Common.{◌≡◌, ℕ, ◌+◌, ◌≤◌, List, length, take, drop, true, false, Option}
@@ -30,7 +30,7 @@ carries size longest n bytes payload short fits content =
     ∙ length-take-le n (drop size bytes) (omega (arith, length-drop size bytes, fits)) in
     omega (arith, long, fits, short)
 
--- what came is this telegram, and its counts match the node's
+-- what came is this telegram, and its topology counters match the node's
 pub record Comes (globals : Globals) (came : Option TelegramModel) (telegram : TelegramModel)
     : Type 0 where
   pub is : came ≡ Some telegram
@@ -48,7 +48,7 @@ pub none_read : (globals : Globals) (came : Option TelegramModel) → came ≡ N
     → IsAdmitted globals came None
 none_read globals came is = λ setup slot. rw is refl
 
--- a telegram whose counts don't match
+-- a telegram whose topology counters don't match
 pub none_valid : (globals : Globals) (came : Option TelegramModel) (telegram : TelegramModel)
     → came ≡ Some telegram → is_valid_at globals telegram ≡ false → IsAdmitted globals came None
 none_valid globals came telegram is fails = λ setup slot. rw (is, fails) refl
@@ -65,7 +65,7 @@ pub none_admitted : (globals : Globals) (came : Option TelegramModel) (taken : O
     → received_if setup slot globals came ≡ unchanged slot
 none_admitted globals came taken is admitted = rw is at admitted
 
--- where room is wanting for those that act at it
+-- where room is missing for those that act at it
 pub lacks_room : (out : OutboxState) (globals : Globals) (slots : List SlotState)
     (came : Option TelegramModel) (telegram : TelegramModel) → Comes globals came telegram
     → LacksRoom out (entries_room (flat_map (λ slot. acting telegram globals slot.objects) slots))

@@ -1,6 +1,6 @@
 -- What is counted after many events.
 -- For `Node::run`.
--- By a loop's invariant: one event more leads to the slots and globals that the events say.
+-- By a loop's invariant: one more event leads to the slots and globals that the events say.
 use Rattle.std.proofs.Common.{◌≡◌, ℕ, List, [], ◌∷◌, ◌++◌, length, Bool, true, false}
 use Rattle.std.proofs.Common.{is_some, refl, sym, ◌∙◌, ap, subst, append_assoc}
 use Rattle.std.proofs.Common.{Option, Some, None, Result, Ok, Err, OnOk, OnErr}
@@ -33,7 +33,7 @@ refused_more n globals [] event are is = (is, tt)
 refused_more n globals (e ∷ events) event are is =
     (are.0, refused_more n globals events event are.1 is)
 
--- an event that is refused changes nothing
+-- an event that is rejected changes nothing
 latest_kept : (old now : NodeState) (events : List EventModel) (event : EventModel)
     → is_some (refused_as (length now.slots) now.globals event) ≡ true
     → CountsLatest old now events → CountsLatest old now (events ++ event ∷ [])
@@ -61,7 +61,7 @@ none_there : (fault : Option NodeFault) (done : Unit {0}) → FaultIs fault (Ok 
 none_there None done answer = refl
 none_there (Some fault) done answer = absurd answer
 
--- the globals to which one event more leads
+-- the globals to which one more event leads
 through_more : (n : ℕ) (globals : Globals) (events : List EventModel) (event : EventModel)
     → globals_through n globals (events ++ event ∷ [])
     ≡ globals_through (slots_through n events) (globals_through n globals events) (event ∷ [])
@@ -86,13 +86,13 @@ through_more n globals (e ∷ events) event =
     either true is refused taken = rw is refused
     either false is refused taken = rw is taken
 
--- how many slots there are after one event more
+-- how many slots there are after one more event
 slots_more : (n : ℕ) (events : List EventModel) (event : EventModel)
     → slots_through n (events ++ event ∷ []) ≡ slots_then (slots_through n events) event
 slots_more n [] event = refl
 slots_more n (e ∷ events) event = slots_more (slots_then n e) events event
 
--- the same of a node, whatever the step answered but want of memory
+-- the same of a node, whatever the step returned but `OutOfMemory`
 pub slots_next : (old now next : NodeState) (events : List EventModel) (event : EventModel)
     (result : Result (Unit {0}) NodeFault)
     → FaultIs (refused_as (length now.slots) now.globals event) result
@@ -130,7 +130,7 @@ globals_next old now next events event (Err fault) count answer memory kept glob
     rw (through_more (length old.slots) old.globals events event, there_then)
     (ap (λ (node : NodeState). node.globals) kept ∙ led)
 
--- one more event, whatever the step answered but want of memory
+-- one more event, whatever the step returned but `OutOfMemory`
 pub latest_next : (old now next : NodeState) (events : List EventModel)
     (event : EventModel) (result : Result (Unit {0}) NodeFault)
     → FaultIs (refused_as (length now.slots) now.globals event) result

@@ -76,7 +76,7 @@ one_refused old now records records_now events event fault s r bad = λ later.
     (refused_first (setup_of old.config) s (length now.slots) (slice_get now.slots s)
     now.globals event later fault (within now.slots s) bad))
 
--- one more event, whatever the step answered but want of memory
+-- one more event, whatever the step returned but `OutOfMemory`
 pub one_event : (old now next : NodeState) (records records_now records_next : List RecordModel)
     (events : List EventModel) (event : EventModel)
     (s : ℕ) (fault : Option NodeFault) (result : Result (Unit {0}) NodeFault)

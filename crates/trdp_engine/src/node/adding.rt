@@ -14,8 +14,8 @@ use trdp_outbox::{Outbox, PlainAnswer};
 use trdp_store::Counts;
 
 impl Node {
-    /// Opens the next slot, empty, with these quotas, and tells it so: room for its objects and
-    /// for the record comes first.
+    /// Opens the next slot, empty, with these quotas, and records that it is open: room for its
+    /// objects and for the record is made first.
     ///
     /// # Errors
     /// The first that applies of `SlotsFull` and `OutOfMemory`.

@@ -26,7 +26,7 @@ impl Node {
         self.store.slots()
     }
 
-    /// How many objects of a kind a slot has, and how many it may have, at most 256.
+    /// How many objects of a kind a slot has, and how many it may have, each at most 256.
     pub fn usage(&self, slot: u16, kind: Kind) -> (u16, u16)
         requires { slot < length self.now.slots }
         ensures count { result.0
@@ -40,18 +40,18 @@ impl Node {
         self.store.usage(slot, kind)
     }
 
-    /// The least moment by which something is due, in microseconds: until then nothing happens by
-    /// itself. None where nothing ever will.
+    /// The least moment by which something is due, in microseconds; no object fires before it.
+    /// None where nothing is due at any moment.
     pub fn next_due(&self) -> Option<u64>
         ensures { IsNextDue self.now.slots result }
     {
         self.store.soonest()
     }
 
-    /// What the latest event cost that the node took: how often two rows or two orders were
+    /// What the latest event cost that the node accepted: how often two rows or two orders were
     /// compared, or an order with the moment; filter tests; and look-ups of sessions, in this
-    /// order. Each number stays at 2^64 - 1 where it is that or more. All are 0 for a new node and
-    /// after a call. An event that is refused leaves them.
+    /// order. A number that would be 2^64 - 1 or more is 2^64 - 1. All are 0 for a new node and
+    /// after a call. An event that is rejected leaves them.
     pub fn counts(&self) -> [u64; 3]
         ensures { result ≡ self.now.counts.comparisons ∷ self.now.counts.tests
             ∷ self.now.counts.look_ups ∷ [] }

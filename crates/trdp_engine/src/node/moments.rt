@@ -1,4 +1,4 @@
-//! What a moment does to a node: it is tested, room is made, and what is due fires.
+//! What a node does at a moment: it tests the moment, makes room, and fires what is due.
 
 ghost use Rattle.std.specs.Prelude.{◌≡◌, ℕ, length, OnOk, OnErr, Err, Some, slice_get};
 ghost use Rattle.trdp_model.specs.Configs.{setup_of};
@@ -18,8 +18,8 @@ use trdp_outbox::Outbox;
 use trdp_store::Counts;
 
 impl Node {
-    /// Takes the moment `t`, in microseconds: room for all records first, then each due object
-    /// fires.
+    /// Processes the moment `t`, in microseconds: it makes room for all records first, then each
+    /// due object fires.
     ///
     /// # Errors
     /// The first that applies of `Past`, `TooLate` and `OutOfMemory`.

@@ -1,4 +1,4 @@
-//! Where the fields of a message data header stand behind the first ones, in bytes from its start.
+//! Offsets of the fields of a message data header after the first ones, in bytes from its start.
 
 /// replyStatus, 4 bytes.
 pub const STATUS: usize = 24;

@@ -43,14 +43,17 @@ fn uri_at(bytes: &[u8], offset: usize) -> Uri
 /// The message data telegram in the bytes, whose payload it lends (IEC 61375-2-3).
 ///
 /// Byte 5, what follows the first zero byte of a URI, and what follows the dataset are ignored. The
-/// fields are as they stand in the header. Which tests are made, and in which order, is the
-/// profile's choice.
+/// fields are as the header has them. Which tests are made, and in which order, is the profile's
+/// choice.
 ///
 /// # Errors
-/// The first that holds: [`HeadFault::Short`] below 116 bytes, [`HeadFault::TooLong`] above 65504,
-/// [`HeadFault::Fcs`] where bytes 112 to 115 are not the frame check of the 112 before them,
-/// [`HeadFault::Version`] where byte 4 is not 1, [`HeadFault::Kind`] where the type is not one of
-/// [`MdKind`], [`HeadFault::Length`] where the dataset is longer than what follows the header.
+/// The first that holds:
+/// - [`HeadFault::Short`]: there are fewer than 116 bytes.
+/// - [`HeadFault::TooLong`]: there are more than 65504 bytes.
+/// - [`HeadFault::Fcs`]: bytes 112 to 115 are not the frame check of the 112 before them.
+/// - [`HeadFault::Version`]: byte 4 is not 1.
+/// - [`HeadFault::Kind`]: the type is not one of [`MdKind`].
+/// - [`HeadFault::Length`]: the dataset is longer than what follows the header.
 pub fn read_md(bytes: &[u8]) -> Result<MdView<'_>, HeadFault>
     ensures telegram { IfOk result (λ view. IsMdTelegram bytes.now view.head view.payload.now) }
     ensures exact { (head : MdHead) (payload : List ℕ) → IsMdTelegram bytes.now head payload

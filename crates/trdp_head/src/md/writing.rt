@@ -14,7 +14,7 @@ use crate::md::{MD_HEAD, MdHead, MdKind, layout};
 use crate::payload::{append_telegram, complete, put_check, rounded};
 use crate::prefix::{Prefix, put_prefix};
 
-/// The length in bytes of a telegram with so many bytes of payload, 0 to 65388: 116, and the
+/// The length in bytes of a telegram whose payload has this many bytes, 0 to 65388: 116, and the
 /// payload rounded up to a multiple of four (IEC 61375-2-3).
 pub fn md_length(payload: usize) -> usize
     requires { payload ≤ md_payload_limit }
@@ -58,11 +58,11 @@ fn put_head(room: &mut [u8], head: MdHead, payload: u32)
     put_bytes(room, layout::DEST_URI, head.dest_uri.field());
 }
 
-/// Writes the telegram at the front of the room, and answers its length (IEC 61375-2-3).
+/// Writes the telegram at the front of the room, and returns its length (IEC 61375-2-3).
 ///
 /// The payload has at most 65388 bytes, and the room at least the length that [`md_length`] says;
-/// what lies behind the telegram in the room stays. The version is 0x0100; the zeros behind the
-/// URIs and the payload are written.
+/// what follows the telegram in the room stays. The version is 0x0100; the zeros after the URIs
+/// and the payload are written.
 pub fn write_md(head: &MdHead, payload: &[u8], room: &mut [u8]) -> usize
     requires payload { length payload.now ≤ md_payload_limit }
     requires room { md_length_of (length payload.now) ≤ length room.old }
@@ -75,7 +75,7 @@ pub fn write_md(head: &MdHead, payload: &[u8], room: &mut [u8]) -> usize
     complete(room, MD_HEAD, payload)
 }
 
-/// The header with its frame check, for so many bytes of payload.
+/// The header with its frame check, for this many bytes of payload.
 fn header(head: MdHead, payload: u32) -> [u8; MD_HEAD]
     ensures { result ≡ with_check (md_head_bytes head payload) }
 {
@@ -85,7 +85,7 @@ fn header(head: MdHead, payload: u32) -> [u8; MD_HEAD]
     room
 }
 
-/// Adds the telegram at the end of the list, within its room, and answers its length
+/// Adds the telegram at the end of the list, within its room, and returns its length
 /// (IEC 61375-2-3).
 ///
 /// It is the telegram that [`write_md`] writes. The payload has at most 65388 bytes, and the list

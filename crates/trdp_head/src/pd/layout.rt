@@ -1,4 +1,4 @@
-//! Where the fields of a process data header stand behind the first ones, in bytes from its start.
+//! Offsets of the fields of a process data header after the first ones, in bytes from its start.
 
 /// The reserved field, 4 bytes.
 pub const RESERVED: usize = 24;

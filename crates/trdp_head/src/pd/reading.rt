@@ -32,10 +32,13 @@ fn kind_of_code(code: u16) -> Option<PdKind>
 /// in which order, is the profile's choice.
 ///
 /// # Errors
-/// The first that holds: [`HeadFault::Short`] below 40 bytes, [`HeadFault::TooLong`] above 1472,
-/// [`HeadFault::Fcs`] where bytes 36 to 39 are not the frame check of the 36 before them,
-/// [`HeadFault::Version`] where byte 4 is not 1, [`HeadFault::Kind`] where the type is not one of
-/// [`PdKind`], [`HeadFault::Length`] where the dataset is longer than what follows the header.
+/// The first that holds:
+/// - [`HeadFault::Short`]: there are fewer than 40 bytes.
+/// - [`HeadFault::TooLong`]: there are more than 1472 bytes.
+/// - [`HeadFault::Fcs`]: bytes 36 to 39 are not the frame check of the 36 before them.
+/// - [`HeadFault::Version`]: byte 4 is not 1.
+/// - [`HeadFault::Kind`]: the type is not one of [`PdKind`].
+/// - [`HeadFault::Length`]: the dataset is longer than what follows the header.
 pub fn read_pd(bytes: &[u8]) -> Result<PdView<'_>, HeadFault>
     ensures telegram { IfOk result (λ view. IsPdTelegram bytes.now view.head view.payload.now) }
     ensures exact { (head : PdHead) (payload : List ℕ) → IsPdTelegram bytes.now head payload

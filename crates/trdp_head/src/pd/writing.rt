@@ -14,8 +14,8 @@ use crate::payload::{append_telegram, complete, put_check, rounded};
 use crate::pd::{PD_HEAD, PdHead, PdKind, layout};
 use crate::prefix::{Prefix, put_prefix};
 
-/// The length in bytes of a telegram with so many bytes of payload, 0 to 1432: 40, and the payload
-/// rounded up to a multiple of four (IEC 61375-2-3).
+/// The length in bytes of a telegram whose payload has this many bytes, 0 to 1432: 40, and the
+/// payload rounded up to a multiple of four (IEC 61375-2-3).
 pub fn pd_length(payload: usize) -> usize
     requires { payload ≤ pd_payload_limit }
     ensures { result ≡ pd_length_of payload }
@@ -54,11 +54,11 @@ fn put_head(room: &mut [u8], head: PdHead, payload: u32)
     put_u32(room, layout::REPLY_IP, head.reply_ip.0);
 }
 
-/// Writes the telegram at the front of the room, and answers its length (IEC 61375-2-3).
+/// Writes the telegram at the front of the room, and returns its length (IEC 61375-2-3).
 ///
 /// The payload has at most 1432 bytes, and the room at least the length that [`pd_length`] says;
-/// what lies behind the telegram in the room stays. The version is 0x0100, the reserved field and
-/// the padding are 0.
+/// what follows the telegram in the room stays. The version is 0x0100, the reserved field and the
+/// padding are 0.
 pub fn write_pd(head: &PdHead, payload: &[u8], room: &mut [u8]) -> usize
     requires payload { length payload.now ≤ pd_payload_limit }
     requires room { pd_length_of (length payload.now) ≤ length room.old }
@@ -71,7 +71,7 @@ pub fn write_pd(head: &PdHead, payload: &[u8], room: &mut [u8]) -> usize
     complete(room, PD_HEAD, payload)
 }
 
-/// The header with its frame check, for so many bytes of payload.
+/// The header with its frame check, for this many bytes of payload.
 fn header(head: PdHead, payload: u32) -> [u8; PD_HEAD]
     ensures { result ≡ with_check (pd_head_bytes head payload) }
 {
@@ -81,7 +81,7 @@ fn header(head: PdHead, payload: u32) -> [u8; PD_HEAD]
     room
 }
 
-/// Adds the telegram at the end of the list, within its room, and answers its length
+/// Adds the telegram at the end of the list, within its room, and returns its length
 /// (IEC 61375-2-3).
 ///
 /// It is the telegram that [`write_pd`] writes. The payload has at most 1432 bytes, and the list

@@ -7,8 +7,8 @@ use trdp_base::Ip;
 use trdp_net::Sent;
 
 /// Two nodes hear what is sent to the group; the first is asked once and replies, and is asked
-/// again when the request comes again. The reply comes twice, and is told once. The second answers
-/// by a query, which is confirmed.
+/// again when the request comes again. The reply comes twice, and is reported once. The second
+/// answers by a query, which is confirmed.
 static STEPS: [Step; 13] = [
     Step {
         node: 1,
@@ -105,7 +105,7 @@ static STEPS: [Step; 13] = [
     },
 ];
 
-/// From where to where the telegrams went, and that they are no more.
+/// From where to where the telegrams went, and that there are no more.
 static WAYS: [Option<(Ip, Ip)>; 5] = [
     Some((Ip(0x0a00_0001), Ip(0xef00_0001))),
     Some((Ip(0x0a00_0002), Ip(0x0a00_0001))),

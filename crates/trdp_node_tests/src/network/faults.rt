@@ -1,4 +1,4 @@
-//! Steps that a network doesn't take, and that they change nothing.
+//! Steps that a network rejects, and that they change nothing.
 
 use super::{Act, NetworkBench, Step};
 use crate::same::same;
@@ -6,7 +6,7 @@ use std::test::Fail;
 use trdp_engine::NodeFault;
 use trdp_net::NetworkFault;
 
-/// What the telegram of process data tells.
+/// What is reported of the telegram of process data.
 const TOLD: &str = "\
     0 send pd 239.0.0.1:17224 \
     000000000100506400000064000000000000000000000002000000000000000000000000ec179c94\
@@ -41,7 +41,7 @@ static BEGINS: [Step; 4] = [
     },
 ];
 
-/// Steps that aren't taken, at the nodes of these numbers, and why.
+/// Steps that are rejected, at the nodes of these numbers, and why.
 static REFUSED: [(usize, Act, NetworkFault); 12] = [
     (
         4,

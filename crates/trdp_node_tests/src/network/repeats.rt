@@ -1,11 +1,11 @@
-//! A request that is sent again, and what comes of each of its telegrams at the other node.
+//! A request that is sent again, and what each of its telegrams does at the other node.
 
 use super::{Act, NetworkBench, Step};
 use std::test::Fail;
 
-/// The repeat is delivered while the first telegram's session is open, and tells nothing. The reply
-/// comes twice, and is told once. The first telegram comes again once its session is over, and is a
-/// request like any other.
+/// The repeat is delivered while the first telegram's session is open, and nothing is reported.
+/// The reply comes twice, and is reported once. The first telegram comes again once its session is
+/// over, and is a request like any other.
 static STEPS: [Step; 9] = [
     Step {
         node: 1,
@@ -76,6 +76,7 @@ static STEPS: [Step; 9] = [
     },
 ];
 
+// rule: replier.repeat
 #[test]
 fn a_repeat_is_no_second_request(rt: HostRuntime) -> Result<(), Fail> {
     let mut bench = NetworkBench::new(rt.alloc())?;

@@ -1,5 +1,5 @@
--- What a slot is given, and its records.
--- For what is played and told of an event in crates above.
+-- What a slot receives, and its records.
+-- For what crates above write and report of an event.
 -- By induction on the records: each of the slot is what it says, as a record of that slot.
 use Rattle.std.proofs.Common.{◌≡◌, ℕ, true, false, List, [], ◌∷◌, inl, inr, refl, sym, ◌∙◌, ap}
 use Rattle.std.specs.Prelude.{◌==◌}

@@ -27,7 +27,7 @@ own_none t s (r ∷ records) (higher, rest) below =
     let lower : t < r.slot = omega (arith, higher, below) in
     own_higher t r records lower ∙ own_none t r.slot records rest lower
 
--- behind its slot a record isn't there
+-- after its slot there is no further record of it
 from_behind : (n s : ℕ) (r : RecordModel) (records : List RecordModel)
     → r.slot < s → slots_from s n (r ∷ records) ≡ slots_from s n records
 from_behind zero s r records below = from_zero s (r ∷ records) ∙ sym (from_zero s records)
@@ -87,7 +87,7 @@ rising_by_slot s records rising =
     let within : slots_end records ≤ slots_end records = omega arith in
     from_rising (slots_end records) s records within rising
 
--- an element and those behind it
+-- an element and those after it
 pub drop_get : {A : Type 0} (xs : List A) (i : ℕ) (x : A)
     → slice_get xs i ≡ Some x → drop i xs ≡ x ∷ drop (i + 1) xs
 drop_get xs i x here =

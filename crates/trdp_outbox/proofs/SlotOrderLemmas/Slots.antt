@@ -1,5 +1,5 @@
 -- The records of slots, one slot after the other.
--- For the walk over an outbox's records, and for what is played and told of them in crates above.
+-- For the walk over an outbox's records, and for what crates above write and report of them.
 -- By induction on the slots: a slot without records adds nothing, and none past the last has one.
 use Rattle.std.proofs.Common.{◌≡◌, zero, suc, ◌+◌, ◌<◌, ◌≤◌, ℕ, true, false, List, [], ◌∷◌, ◌++◌}
 use Rattle.std.proofs.Common.{refl, sym, ◌∙◌, ap, arith, append_assoc, append-nil}

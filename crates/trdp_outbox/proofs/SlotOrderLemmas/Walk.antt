@@ -208,7 +208,7 @@ all_left false rs rises = by_end (slots_end rs) refl
         ap (λ n. slots_own 0 rs ++ slots_from 1 n rs) fewer ∙ sym (from_suc 0 end rs)
         ∙ ap (λ n. slots_from 0 n rs) (sym is)
 
--- one more record was come to, of those that were still to come
+-- one more record was reached, of those that were still to come
 pub walked_one : (all done left : List RecordModel) (r : RecordModel)
     → all ≡ done ++ r ∷ left → all ≡ (done ++ r ∷ []) ++ left
 walked_one all done left r is = is ∙ sym (append_assoc done (r ∷ []) left)

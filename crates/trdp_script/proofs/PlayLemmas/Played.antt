@@ -32,7 +32,7 @@ use Rattle.trdp_outbox.specs.SlotOrder.{by_slot, slots_from, slots_own}
 use Rattle.trdp_outbox.proofs.SlotOrderLemmas.Labels.{own_labelled}
 use Rattle.trdp_outbox.proofs.SlotOrderLemmas.Slots.{by_slot_within, from_last, from_suc, from_zero}
 
--- what stands at each number after an event that the node takes
+-- what is at each number after an event that the node takes
 after_at : (setup : NodeSetup) (g : Globals) (event : EventModel) (n k : ℕ) (olds : List SlotState)
     → n ≡ k + length olds → refused_as n g event ≡ None → (i s : ℕ) → s ≡ k + i
     → slice_get (slots_after setup g event k olds ++ opened_by event) i
@@ -48,7 +48,7 @@ after_at setup g event n k (x ∷ xs) count admitted zero s is =
 after_at setup g event n k (x ∷ xs) count admitted (suc i) s is =
     after_at setup g event n (suc k) xs (omega (arith, count)) admitted i s (omega (arith, is))
 
--- the slots after an event, of which each number says what stands there
+-- the slots after an event, of which each number says what is there
 slots_same : (old new : NodeModel) (records records_then : List RecordModel) (event : EventModel)
     → refused_as (length old.slots) old.globals event ≡ None
     → ((s : ℕ) → StepsAsAlone old new records records_then event s)
@@ -169,7 +169,7 @@ slots_text_after setup g event records (slot ∷ slots) n each =
     ∙ sym (flat_map-append text_of_record (slots_own n records) rest)
     ∙ ap (flat_map text_of_record) (sym (from_suc n (length slots) records))
 
--- what is told of an event that the node took
+-- the text of an event that the node took
 pub text_played : (old new : NodeModel) (records records_then : List RecordModel)
     (event : EventModel) → FaultIs (refused_as (length old.slots) old.globals event) (Ok tt)
     → records ≡ [] → ((s : ℕ) → StepsAsAlone old new records records_then event s)
@@ -185,7 +185,7 @@ text_played old new records records_then event taken empty steps =
     (each_after old new records records_then event empty steps)))
     ∙ ap (λ fault. text_unless fault old event) (sym admitted)
 
--- what is told of an event that the node took no notice of
+-- the text of an event that the node rejected
 pub text_refused : (node : NodeModel) (event : EventModel) (refused : Option NodeFault)
     (fault : NodeFault) → FaultIs refused (Err fault) → (fault ≡ OutOfMemory → ⊥)
     → text_of_fault fault ≡ text_unless refused node event

@@ -49,7 +49,7 @@ passes_front {a} {b} {held} (n, written) = record {
   };
 }
 
--- nothing was told
+-- no text came
 pub passes_nothing : (w : Option (List ℕ)) (held : List ℕ) → PassesOn w w held held []
 passes_nothing w held = record { part = []; written = Appends-nil w; rest = append-nil held }
 

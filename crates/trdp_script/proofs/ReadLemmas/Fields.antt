@@ -1,6 +1,6 @@
 -- Facts on the values that words are the written forms of.
 -- For `number_of`, `ip_of`, `place_of`, `bytes_of`, `uri_of` and `status_of`.
--- By: a value that may stand is found where its written form is the word, and else none is.
+-- By: a value in range is found where its written form is the word, and else none is.
 use Rattle.std.proofs.Common.{◌≡◌, ◌≢◌, ℕ, ◌+◌, ◌*◌, ◌/◌, ◌%◌, ◌^◌, ◌<◌, ◌≤◌, ◌==◌, nat_lt, nat_le}
 use Rattle.std.proofs.Common.{Bool, true, false, List, [], ◌∷◌}
 use Rattle.std.proofs.Common.{◌++◌, length, ◌&&◌, map, Option, Some}
@@ -37,14 +37,14 @@ use Rattle.trdp_script.specs.Words.{bytes_of_word, IsBytesFault, are_bytes, is_u
 use Rattle.trdp_script.specs.declared.fault.LineFault.{LineFault}
 use Rattle.trdp_script.specs.declared.fault.LineFault.TheVariants.{BadWord, OutOfMemory}
 
--- a value that may stand and has the word as its written form is found
+-- a value in range that has the word as its written form is found
 pub written : {A : Type 0} (text_of : A → List ℕ) (word : List ℕ) (may_stand : Bool) (shown : A)
     → may_stand ≡ true → word ≡ text_of shown → if_written text_of word may_stand shown ≡ Some shown
 unfolding if_written
 written text_of word may_stand shown may is =
     rw (may, (bytes_eq-Decides (text_of shown) word).1 (sym is)) refl
 
--- where no value that may stand has the word as its written form, none is found
+-- where no value in range has the word as its written form, none is found
 pub unwritten : {A : Type 0} (text_of : A → List ℕ) (word : List ℕ) (may_stand : Bool) (shown : A)
     → (may_stand ≡ true → word ≡ text_of shown → ⊥) → if_written text_of word may_stand shown ≡ None
 unfolding if_written
@@ -259,7 +259,7 @@ some_not_none value e = true≢false (ap is_some e)
 pub bytes_lack : (word : List ℕ) → bytes_of_word word ≡ None → IsHexText word → ⊥
 bytes_lack word none hex = some_not_none hex.0 (sym (bytes_found word hex.0 hex.1 hex.2) ∙ none)
 
--- the value that is found may stand and has the word as its written form
+-- the value that is found is in range and has the word as its written form
 written_back : {A : Type 0} (text_of : A → List ℕ) (word : List ℕ)
     (may_stand : Bool) (shown value : A) → if_written text_of word may_stand shown ≡ Some value
     → (may_stand ≡ true) × (word ≡ text_of shown) × (shown ≡ value)
@@ -308,7 +308,7 @@ word_is_bad word fault bad is = word_is_bad_by (bytes_of_word word) refl
     word_is_bad_by (Some bytes) some = let facts = bytes_written word bytes some in
         absurd (bad (bytes, facts.0, facts.1))
 
--- where a word is not bad, memory ran out
+-- where a word is not bad, an allocation failed
 pub memory_ran_out : (word : List ℕ) (fault : LineFault)
     → ((IsHexText word → ⊥) → ⊥) → fault ≡ OutOfMemory → IsBytesFault (bytes_of_word word) fault
 memory_ran_out word fault good is = memory_ran_out_by (bytes_of_word word) refl

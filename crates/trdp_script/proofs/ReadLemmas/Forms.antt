@@ -22,13 +22,13 @@ use Rattle.trdp_script.specs.Words.{first_word, other_words, third_word, words_o
 use Rattle.trdp_script.specs.declared.fault.LineFault.{LineFault}
 use Rattle.trdp_model.specs.declared.event.Event.{Event}
 
--- the form of a call is told by the call's own word
+-- the call's own word selects the form of a call
 pub call_told : (words : List (List ℕ)) → bytes_eq (first_word words) call_word ≡ true
     → say_among forms words ≡ words_say (form_of_call (third_word words)) words
 unfolding say_among form_of_call
 call_told words is = rw ((bytes_eq-Decides (first_word words) call_word).0 is) refl
 
--- keywords are looked for among as many words as the parts are
+-- keywords are looked for among as many words as there are parts
 keywords_among : (parts : List Part) (n : ℕ) (words : List (List ℕ)) → length parts ≤ n
     → has_keywords parts (take n words) ≡ has_keywords parts words
 unfolding has_keywords first_word other_words
@@ -80,7 +80,7 @@ same_says form n words few = by_length (nat_le (length words) n) refl
         let not_all : may_have form.parts (length words) ≡ false = and_right _ _ all in
         rw (not_cut, not_all) refl
 
--- no form among these has so many parts
+-- no form among these has that many parts
 abbrev pub have_fewer : ℕ → List LineForm → Bool
 have_fewer n known = list_all (λ form. nat_lt (length form.parts) n) known
 
@@ -113,7 +113,7 @@ pub operators_few_parts : have_fewer 15 operator_forms ≡ true
 unfolding operator_forms
 operators_few_parts = refl
 
--- what was read of the first 15 words of a line is what all say
+-- what was read of the first 15 words of a line is what all words say
 pub words_read : (known : List LineForm) (line words : List (List ℕ))
     (r : Result (Option Event) LineFault) → have_fewer 15 known ≡ true → words ≡ take 15 line
     → Reads (say_among known words) r

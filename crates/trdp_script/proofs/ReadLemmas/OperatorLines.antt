@@ -1,6 +1,6 @@
 -- Facts on what the operator says: an event or a question.
 -- For `read_operator`, `read_said`, and what the daemon may lose.
--- By: the first two words tell a question with no further word; all else is said by a form.
+-- By: the first two words show a question with no further word; all else is said by a form.
 use Rattle.std.proofs.Common.{◌≡◌, ℕ, ◌≤◌, ◌==◌, nat_lt, Bool, true, false, List, []}
 use Rattle.std.proofs.Common.{◌∷◌, length, take, refl, sym, ◌∙◌, ap, arith}
 use Rattle.std.proofs.Common.{Option, Some, None, Result, Ok, Err, if◌then◌else◌}
@@ -68,13 +68,13 @@ unfolding operator_says
 ordered_badly words fault none reads =
     rw none (fault_said (say_among operator_forms words) fault (operators_words words) reads)
 
--- and never want of memory
+-- and never out of memory
 pub never_wants : (words : List (List ℕ)) (fault : LineFault)
     → ReadsEvent (say_among operator_forms words) (Err fault) → fault ≡ OutOfMemory → ⊥
 never_wants words fault reads =
     operators_never_want (say_among operator_forms words) fault (operators_words words) reads
 
--- the first words of a line say what all say
+-- the first words of a line say what all words say
 first_kept : (words : List (List ℕ)) → first_word (take 15 words) ≡ first_word words
 unfolding first_word
 first_kept [] = refl
@@ -107,7 +107,7 @@ line_says bytes text words said is short some cut says =
     let tells : nat_lt 140000 (length text) ≡ false = grind (arith, nat_tests, short) in
     rw (sym is, tells, some) (sym (words_kept (words_of text)) ∙ ap operator_words (sym cut) ∙ says)
 
--- what the operator can say: topology counts, a role, a slot that is opened, or a question
+-- what the operator can say: topology counters, a role, a slot that is opened, or a question
 abbrev pub SaysOperators : Result (Option OperatorSays) LineFault → Type 0
 SaysOperators (Err fault) = Unit {0}
 SaysOperators (Ok None) = Unit {0}

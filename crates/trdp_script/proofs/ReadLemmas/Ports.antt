@@ -71,7 +71,7 @@ control_says slot digits text bytes shown small is some short =
     grind (arith, nat_tests, call_length slot text, ap length shown, short) in
     rw (sym is, some, tells, call_begins slot text, call_words slot text small, shown) refl
 
--- the words that are cut behind `call` and the slot
+-- the words that are cut after `call` and the slot
 pub call_cut : (none one two all : List (Bor (List ℕ))) (call slot : Bor (List ℕ)) (text : List ℕ)
     → none ≡ [] → one ≡ none ++ call ∷ [] → two ≡ one ++ slot ∷ []
     → words_at all ≡ take 15 (words_at two ++ words_of text)
@@ -81,7 +81,7 @@ call_cut none one two all call slot text at_first then_one then_two cut =
     (then_two ∙ ap (λ items. items ++ slot ∷ [])
     (then_one ∙ ap (λ items. items ++ call ∷ []) at_first))
 
--- what a line can mean at the operator's port: topology counts, a role, a slot that is opened,
+-- what a line can mean at the operator's port: topology counters, a role, a slot that is opened,
 -- nothing, or a fault
 abbrev pub IsOperators : Result (Option EventModel) LineFault → Type 0
 IsOperators (Err fault) = fault ≡ OutOfMemory → ⊥
@@ -170,7 +170,7 @@ operators_words words = by_form (has_keywords topology_form.parts words)
     by_form false false true = add_slot_words words
     by_form false false false = other_words_said words
 
--- memory is never wanting for it
+-- it is never out of memory
 pub operators_never_want : (meaning : Result (Option EventModel) LineFault) (fault : LineFault)
     → IsOperators meaning → Reads meaning (Err fault) → fault ≡ OutOfMemory → ⊥
 operators_never_want (Err bad) fault never reads is = never (sym reads ∙ is)

@@ -1,6 +1,6 @@
 -- Facts on the words of a line.
 -- For `cut_words`.
--- By induction on the line: what stands before the first space is the first word.
+-- By induction on the line: what comes before the first space is the first word.
 use Rattle.std.proofs.Common.{◌≡◌, ℕ, ◌+◌, ◌<◌, ◌≤◌, ◌==◌, false, List, [], ◌∷◌, ◌++◌, length, refl}
 use Rattle.std.proofs.Common.{arith, take, ap, ◌∙◌, sym, append_assoc, Bor, length-append}
 use Rattle.std.proofs.lemmas.List.{take_all, length-map, map-append}
@@ -11,7 +11,7 @@ use Rattle.trdp_script.specs.Pieces.{Lacks, IsSplit}
 use Rattle.trdp_script.specs.Words.{words_of}
 use Rattle.trdp_script.specs.WordsLeft.{words_at}
 
--- what stands before the first space is the first word
+-- what comes before the first space is the first word
 split_word : (text word behind : List ℕ) → IsSplit 32 text word behind
     → words_of text ≡ word ∷ words_of behind
 unfolding words_of

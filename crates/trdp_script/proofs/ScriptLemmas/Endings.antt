@@ -32,7 +32,7 @@ starts_events : {config : ConfigModel} {s : Script} → Starts config s
     → (input : List ℕ) → events_of (lines (s.line.items ++ input)) ≡ script_events input
 starts_events {config} {s} start input = ap (λ l. events_of (lines (l ++ input))) start.line
 
--- all that was told was written
+-- all text so far was written
 passed_whole : {v w : Option (List ℕ)} {held held_then text : List ℕ}
     → held ≡ [] → held_then ≡ [] → PassesOn v w held held_then text → Appends v w text
 passed_whole {v} {w} {held} {held_then} {text} empty empty_then passed =
@@ -55,7 +55,7 @@ passed_front {v} {w} {held} {text} empty some =
           some.passed.written,
     )
 
--- what was told, where all of it was written
+-- the text so far, where all of it was written
 starts_text : (config : ConfigModel) (s : Script) → Starts config s
     → (input : List ℕ) → events_text (node_of s.player) (events_of (lines (s.line.items ++ input)))
     ≡ script_text config input
@@ -72,7 +72,7 @@ starts_first config s start input n = ap (λ m. events_text m
     ∙ ap (λ l. events_text (opened_model config) (events_of (take n (lines (l ++ input)))))
     start.line
 
--- the first lines of a script were played, and what was told of them is written
+-- the first lines of a script were played, and their text is written
 first_written : (config : ConfigModel) (a b c : Script) (u v w : Option (List ℕ)) (input : List ℕ)
     (n : ℕ) → Starts config a → c.player.output.items ≡ [] → PlaysFirst a b u v input n
     → PassesOn v w b.player.output.items c.player.output.items [] → PlaysLines config input n u w
@@ -84,7 +84,7 @@ first_written config a b c u v w input n start empty first flushed = record {
       (passed_whole start.output empty (passes_both first.passed flushed));
 }
 
--- the line behind them
+-- the line after them
 starts_next : (config : ConfigModel) (s : Script) → Starts config s → (input : List ℕ) (n : ℕ)
     → NextMayWant (node_of s.player) (lines (s.line.items ++ input)) n
     → NextMayWant (opened_model config) (lines input) n
@@ -146,7 +146,7 @@ run_cut config a b u v input left (Err Write) start came cut =
     record { length = front.0; written = front.1 }
 run_cut config a b u v input left (Err OutOfMemory) start came cut = absurd (cc)
 
--- a front of the text that a run told
+-- a front of the text of a run
 told_front : (config : ConfigModel) (a b : Script) (u v w : Option (List ℕ))
     (input : List ℕ) (text rest : List ℕ) → Starts config a
     → PassesOn u v a.player.output.items b.player.output.items text
@@ -160,7 +160,7 @@ told_front config a b u v w input text rest start told is some =
     let front = passed_front start.output all in
     record { length = front.0; written = front.1 }
 
--- the first lines were played, and a front of what was told of them is written
+-- the first lines were played, and a front of their text is written
 first_unwritten : (config : ConfigModel) (a b : Script) (u v w : Option (List ℕ)) (input : List ℕ)
     (n : ℕ) → Starts config a → PlaysFirst a b u v input n
     → PassesSome v w b.player.output.items [] → WritesFront config input u w

@@ -1,4 +1,4 @@
--- The first lines of a script, and those behind them.
+-- The first lines of a script, and those after them.
 -- For all other `ScriptLemmas`.
 -- By induction on the first lines, which have no fault.
 use Rattle.std.proofs.Common.{◌≡◌, suc, ◌+◌, ℕ, cond, false, List, [], ◌∷◌, ◌++◌, length}
@@ -44,7 +44,7 @@ get_append (x ∷ xs) ys k =
     let one : length (x ∷ xs) + k ≡ suc (length xs + k) = omega arith in
     ap (slice_get (x ∷ (xs ++ ys))) one ∙ get_append xs ys k
 
--- behind lines without a fault the first fault is that of the rest
+-- after lines without a fault the first fault is that of the rest
 pub fault_append : (n : ℕ) (xs ys : List (List ℕ)) → fault_from n xs ≡ None
     → fault_from n (xs ++ ys) ≡ fault_from (n + length xs) ys
 fault_append n [] ys none = let same : n ≡ n + 0 = omega arith in ap (λ k. fault_from k ys) same
@@ -89,7 +89,7 @@ lines_front node n all k none =
           ∙ text_append node front behind,
     )
 
--- the next line that may want memory, behind lines and more of them
+-- the next line that may need memory, after lines and more of them
 pub next_append : (node : NodeModel) (n : ℕ) (xs ys : List (List ℕ)) (k : ℕ)
     → fault_from n xs ≡ None → NextMayWant (nodes_after node (events_of xs)) ys k
     → NextMayWant node (xs ++ ys) (length xs + k)

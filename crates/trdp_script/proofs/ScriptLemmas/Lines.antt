@@ -67,7 +67,7 @@ pub lines_last : (bare : List ℕ) → IsBare bare → 0 < length bare → lines
 lines_last bare is_bare some =
     ap lines_of_parts (slice_split_none is_newline bare is_bare) ∙ one_part bare some
 
--- lines of which the first is longer than so many bytes
+-- lines of which the first has more than that many bytes
 pub record LongFirst (m : ℕ) (all : List (List ℕ)) : Type 0 where
   pub first : List ℕ
   pub rest : List (List ℕ)
@@ -121,6 +121,6 @@ pub too_long_fault : (n : ℕ) (all : List (List ℕ))
     → LongFirst 140000 all → fault_from n all ≡ Some (n, TooLong)
 too_long_fault n all long = rw (long.is, line_too_long long.first long.long) refl
 
--- and no event comes of it
+-- and it has no event
 pub too_long_events : (all : List (List ℕ)) → LongFirst 140000 all → events_of all ≡ []
 too_long_events all long = rw (long.is, line_too_long long.first long.long) refl

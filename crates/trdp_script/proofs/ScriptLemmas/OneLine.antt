@@ -1,6 +1,6 @@
 -- A script on its way: one line.
 -- For `Player::take_line`, `Script::end_line`, `end_last` and `take_whole`.
--- By cases on what the line means: an event, nothing, a fault, or want of memory.
+-- By cases on what the line means: an event, nothing, a fault, or an event that is out of memory.
 use Rattle.std.proofs.Common.{inl, ◌≡◌, suc, ◌+◌, ◌<◌, ℕ, Bool, true, false, List, []}
 use Rattle.std.proofs.Common.{◌∷◌, ◌++◌, length, Some, None, Ok, Err, Option}
 use Rattle.std.proofs.Common.{Result, refl, sym, ◌∙◌, ap, arith, append-nil, append_assoc, subst}
@@ -70,7 +70,7 @@ line_plays old new v w event bare is played empty next =
       };
     }
 
--- a line without a fault that stands whole before its newline
+-- a line without a fault that comes whole before its newline
 whole_plays : (old new : Script) (v w : Option (List ℕ)) (event : Option EventModel)
     (bytes : List ℕ) → old.line.items ≡ [] → IsBare bytes
     → line_of (strip_carriage_return bytes) ≡ Ok event
@@ -95,7 +95,7 @@ whole_plays old new v w event bytes begun bare is played empty next =
       };
     }
 
--- a good line for which memory is wanting
+-- a good line for which an allocation fails
 line_wants : (old new : Script) (v w : Option (List ℕ)) (event : Option EventModel)
     (line rest : List ℕ) (later : List (List ℕ))
     → line_of line ≡ Ok event → lines (old.line.items ++ rest) ≡ line ∷ later
@@ -171,7 +171,7 @@ line_ends old new v w event first is played = record {
       (sym (ap events_of first ∙ events_one old.line.items event is));
 }
 
--- a line that was played, by what came of it
+-- a line that was played, by its result
 came_good : (old new : Script) (v w : Option (List ℕ))
     (n : ℕ) (meaning : Result (Option EventModel) LineFault)
     → LineComesTo old.player new.player v w n meaning (Ok tt)
@@ -201,7 +201,7 @@ line_bad old new v w text fault is bare came later =
     (subst (λ (l : List ℕ).
     LineComesTo old.player new.player v w old.number (line_of l) (Err fault)) is came)
 
--- a line that stands whole before its newline was played
+-- a line that comes whole before its newline was played
 pub whole_came : (old new : Script) (v w : Option (List ℕ)) (text bytes : List ℕ)
     → text ≡ strip_carriage_return bytes → length old.line.items ≡ 0 → IsBare bytes
     → LineComesTo old.player new.player v w old.number (line_of text) (Ok tt)
@@ -213,7 +213,7 @@ whole_came old new v w text bytes is none bare came same next =
     whole_plays old new v w good.0 bytes begun bare (ap line_of (sym is) ∙ good.1) good.2
     (same ∙ begun) next
 
--- a line that stands whole before its newline stops the script
+-- a line that comes whole before its newline stops the script
 pub whole_bad : (old new : Script) (v w : Option (List ℕ)) (text bytes : List ℕ)
     (fault : ScriptFault) → text ≡ strip_carriage_return bytes → length old.line.items ≡ 0
     → IsBare bytes → LineComesTo old.player new.player v w old.number (line_of text) (Err fault)
@@ -249,7 +249,7 @@ last_bad old new v w text r is bare some came =
     r (ap lines (append-nil old.line.items) ∙ lines_last old.line.items bare some)
     (subst (λ (l : List ℕ). LineComesTo old.player new.player v w old.number (line_of l) r) is came)
 
--- a line's fault is never want of memory
+-- a line's fault is never that it is out of memory
 abbrev NeverMemory : Result (Option EventModel) LineFault → Type 0
 NeverMemory meaning = meaning ≡ Err NoMemory → ⊥
 
@@ -275,7 +275,7 @@ never_memory text is = never_long (nat_lt 140000 (length text)) (is_skipped text
     never_long false true is = absurd (cc)
     never_long false false is = never_said (form_among forms (words_of text)) (words_of text) is
 
--- a good line for which there is no memory
+-- a good line for which an allocation fails
 pub memory_came : (p q : Player) (w : Option (List ℕ)) (n : ℕ) (text : List ℕ) (bad : LineFault)
     → bad ≡ NoMemory → Reads (line_of text) (Err bad) → q.output.items ≡ p.output.items
     → LineComesTo p q w w n (line_of text) (Err OutOfMemory)

@@ -68,14 +68,14 @@ midst_stops {old} {here} there {u} {v} w {piece} {rest} before
     subst (λ (l : List ℕ). Stops old there u w l fault)
     whole_is (stops_after there w (rest ++ later) fault midst.plays here_stops)
 
--- the bytes behind the last newline are taken
+-- the bytes after the last newline are taken
 pub midst_taken : {old here : Script} (there : Script) {u v : Option (List ℕ)}
     (w : Option (List ℕ)) {piece rest : List ℕ}
     → Midst old here u v piece rest → Plays here there v w rest → Plays old there u w piece
 midst_taken {old} {here} there {u} {v} w {piece} {rest} midst plays =
     subst (λ (l : List ℕ). Plays old there u w l) (sym midst.whole) (plays_both midst.plays plays)
 
--- the bytes behind the last newline stop the script
+-- the bytes after the last newline stop the script
 pub midst_too_long : {old here : Script} (there : Script) {u v : Option (List ℕ)}
     (w : Option (List ℕ)) {piece rest : List ℕ} (fault : ScriptFault)
     → Midst old here u v piece rest

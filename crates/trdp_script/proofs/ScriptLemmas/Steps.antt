@@ -1,6 +1,6 @@
 -- A script on its way, step after step.
 -- For `Script::gather`, `take_to_newline` and `write_out`, and for the lemmas on lines and pieces.
--- By: what is told of some bytes and then of others is told of both, in that order.
+-- By: the text of some bytes, and then of others, is that of both, in that order.
 use Rattle.std.proofs.Common.{◌≡◌, ◌+◌, ◌<◌, ℕ, false, List, [], ◌++◌, length}
 use Rattle.std.proofs.Common.{take, Ok, Err, Option, Result, refl, sym, ◌∙◌, ap, arith}
 use Rattle.std.proofs.Common.{append_assoc, length-append, subst}
@@ -46,7 +46,7 @@ later_events {old} {new} p later =
     ap events_of (p.lines_are later)
     ∙ events_append old.number p.ended (lines (new.line ++ later)) p.no_fault
 
--- what is told of some bytes and then of others
+-- the text of some bytes and then of others
 pub text_joined : {old new : Going} {bytes text : List ℕ}
     (p : TakesBytes old new bytes text) (events : List EventModel)
     → events_text old.node (events_of p.ended ++ events) ≡ text ++ events_text new.node events
@@ -91,7 +91,7 @@ plays_both p q = record {
   passed = passes_both p.passed q.passed;
 }
 
--- what is told of bytes and of the rest of the input
+-- the text of bytes and of the rest of the input
 pub rest_text :
     {a b : Script} {v w : Option (List ℕ)} {bs : List ℕ} (p : Plays a b v w bs) (rest : List ℕ)
     → events_text (node_of a.player) (events_of (lines (a.line.items ++ (bs ++ rest))))

@@ -1,6 +1,6 @@
--- The index by comId stays the image of the slots' objects, as they come.
+-- The index by comId stays the image of the slots' objects, as they are added.
 -- For `ComLemmas.Kept`, and for `SessionLemmas.Keys`.
--- By induction on the slots: a new object has its row behind those of its slot.
+-- By induction on the slots: a new object has its row after those of its slot.
 use Rattle.std.proofs.Common.{◌≡◌, ◌≢◌, ℕ, zero, suc, ◌+◌, ◌<◌, List, [], ◌∷◌, ◌++◌}
 use Rattle.std.proofs.Common.{length, set, Option, Some, None, Bool, true, false, refl}
 use Rattle.std.proofs.Common.{◌∙◌, sym, ap, subst, arith, append_assoc, append-nil}
@@ -120,7 +120,7 @@ pub same_first : (x y : Rank) → is_same x y ≡ true → x.first ≡ y.first
 unfolding is_same
 same_first x y same = grind (arith, nat_tests)
 
--- A row more.
+-- One more row.
 
 with_row-before : (r : ComRow) (xs ys : List ComRow) → AllBefore com_row_rank (com_row_rank r) xs
     → with_row com_row_rank r (xs ++ ys) ≡ xs ++ with_row com_row_rank r ys

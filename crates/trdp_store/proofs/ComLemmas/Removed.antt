@@ -1,4 +1,4 @@
--- The index by comId stays the image of the slots' objects, as they go and change.
+-- The index by comId stays the image of the slots' objects, as they are removed and change.
 -- For `Store::remove`, and for `ComLemmas.Kept`.
 -- By induction on the slots: only the row of that slot and handle goes.
 use Rattle.std.proofs.Common.{◌≡◌, ◌≢◌, ℕ, zero, suc, ◌+◌, ◌<◌, List, [], ◌∷◌, ◌++◌}

@@ -139,7 +139,7 @@ abbrev NoneBefore : Entry → List Entry → Type 0
 NoneBefore x [] = Unit {0}
 NoneBefore x (y ∷ ys) = (fires_before y x ≡ false) × NoneBefore x ys
 
--- each of these fires after none of those behind it
+-- each of these fires after none of those that follow it
 abbrev AreOrdered : List Entry → Type 0
 AreOrdered [] = Unit {0}
 AreOrdered (x ∷ xs) = NoneBefore x xs × AreOrdered xs

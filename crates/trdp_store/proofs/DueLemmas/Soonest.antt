@@ -18,7 +18,7 @@ use Rattle.trdp_store.proofs.DueLemmas.Next.{none_due_after}
 use Rattle.trdp_store.proofs.StoreLemmas.Keys.{KeysTell}
 use Rattle.trdp_store.proofs.DueLemmas.Room.{due_counted}
 
--- an order and those behind it, counted
+-- an order and those after it, counted
 count_due : (t : ℕ) (o : Option Order) (orders : List (Option Order))
     → count_by (is_due_by t) (o ∷ orders)
     ≡ cond {A = ℕ} (is_due_by t o) 1 0 + count_by (is_due_by t) orders

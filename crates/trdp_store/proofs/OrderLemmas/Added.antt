@@ -1,4 +1,4 @@
--- The schedule stays that of the table, as objects come.
+-- The schedule stays that of the table, as objects are added.
 -- For `Store::new` and `add`, and for `OrderLemmas.Removed` and `Changed`.
 -- By: the order of one key is set, and every other key keeps its own.
 use Rattle.std.proofs.Common.{◌≡◌, ◌≢◌, ℕ, zero, suc, ◌<◌, List, [], ◌∷◌, length, map, set, Option}
@@ -139,7 +139,7 @@ scheduled_new quotas room le =
     empty (q ∷ qs) zero = refl
     empty (q ∷ qs) (suc s) = empty qs s
 
--- An object comes.
+-- An object is added.
 
 module _ (table : TableState) (schedule after : ScheduleState)
     (s key : ℕ) (object : AnyObject) (is : IsScheduled table schedule) (sound : IsTable table)
@@ -208,7 +208,7 @@ module _ (table : TableState) (schedule after : ScheduleState)
       let old = ap (λ (x : SlotTable). by_handle g x.objects) (sym (elsewhere t apart)) ∙ at in
       timed_else t key schedule after keyed keeps (old_key t g keyed old) (is.timed t g keyed old))
 
-  -- what was found is found yet
+  -- what was found is still found
   abbrev AllFoundYet : ℕ → Type 0
   AllFoundYet t =
       (g : ℕ) (keyed : Keyed) → by_handle g (slot_in t table).objects ≡ Some keyed
@@ -304,7 +304,7 @@ added_unset table table_then schedule s handle key object is sound gives lt a at
     orders_of table schedule is gives key
     (ap (λ (k : ℕ). by_key k (all_objects table)) key_is ∙ a.fresh)
 
--- an object that was added stands in the schedule
+-- an object that was added is in the schedule
 pub added_scheduled : (table table_then : TableState)
     (schedule after : ScheduleState) (s handle key : ℕ) (object : AnyObject)
     → IsScheduled table schedule → IsTable table → KeysGive table

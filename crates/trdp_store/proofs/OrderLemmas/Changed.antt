@@ -1,6 +1,6 @@
--- The schedule stays that of the table, as an object becomes another one.
+-- The schedule stays that of the table, as an object is exchanged for another one.
 -- For `Store::act`.
--- By: the order of its key is set anew, and no other object has that key.
+-- By: the order of its key is set again, and no other object has that key.
 use Rattle.std.proofs.Common.{◌≡◌, ◌≢◌, ℕ, ◌<◌, List, [], length, Option, Some, None}
 use Rattle.std.proofs.Common.{Bool, true, false, refl, ◌∙◌, sym, ap, subst, arith, ◌∷◌}
 use Rattle.std.specs.Prelude.{◌==◌, option_map, slice_index, slice_index_or}

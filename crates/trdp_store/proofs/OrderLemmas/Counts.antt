@@ -1,5 +1,5 @@
 -- How many orders a schedule has: no more than there are objects.
--- For `Store::add`, `act` and `remove`, whose costs go by it, and for `OrderLemmas.Added`.
+-- For `Store::add`, `act` and `remove`, whose costs depend on it, and for `OrderLemmas.Added`.
 -- By: each order is that of an object's key, and no two objects have one key.
 use Rattle.std.proofs.Common.{◌≡◌, ◌≢◌, ℕ, zero, suc, ◌+◌, ◌*◌, ◌^◌, ◌<◌, ◌≤◌, List, []}
 use Rattle.std.proofs.Common.{◌∷◌, length, set, Option, Some, None, Bool, true, false}

@@ -1,6 +1,6 @@
 -- A schedule gets room for more keys, and stays that of the table.
 -- For `Schedule::grow` and `Store::open_slot`.
--- By: the new keys have no order and no room, and what stood before them stays.
+-- By: the new keys have no order and no room, and what was there before them stays.
 use Rattle.std.proofs.Common.{◌≡◌, ℕ, zero, suc, ◌+◌, ◌-◌, ◌*◌, ◌≤◌, List, [], ◌∷◌, ◌++◌}
 use Rattle.std.proofs.Common.{length, get_or, replicate, Option, None, Bool, true, false, cond}
 use Rattle.std.proofs.Common.{refl, ◌∙◌, sym, ap, arith}
@@ -12,9 +12,9 @@ use Rattle.trdp_store.specs.Timed.{ScheduleState, AllAtMost, IsSchedule, IsKeptS
 use Rattle.trdp_store.specs.Timed.{IsScheduled}
 use Rattle.trdp_outbox.specs.Rooms.{room_rows_limit, room_bytes_limit}
 
--- Lists with more behind them.
+-- Lists with more appended.
 
--- these, and so many more of one thing behind them
+-- a list, and copies of one thing appended to it
 pub record IsPadded {X : Type 0} (x : X) (xs : List X) (ys : List X) : Type 0 where
   pub more : ℕ
   pub padded_is : ys ≡ xs ++ replicate more x
@@ -24,7 +24,7 @@ pub padded_if : {X : Type 0} (ok : Bool) (x : X) (xs ys : List X) (n : ℕ)
 padded_if true x xs ys n is = record { more = n; padded_is = is }
 padded_if false x xs ys n is = record { more = 0; padded_is = is ∙ sym (append-nil xs) }
 
--- what isn't there is that thing too
+-- past the end of either list the result is that thing
 at_padded : {X : Type 0} (x : X) (xs : List X) (n k : ℕ)
     → get_or (xs ++ replicate n x) k x ≡ get_or xs k x
 at_padded x [] zero k = refl
@@ -140,7 +140,7 @@ schedule_grown orders orders_then
       bytes_limit = so_far.bytes_limit;
     }
 
--- it is the table's yet
+-- it is still that of the table
 pub scheduled_kept : (table : TableState) (before after : ScheduleState)
     → IsScheduled table before → IsKeptSchedule before after → IsScheduled table after
 scheduled_kept table before after is kept = record {

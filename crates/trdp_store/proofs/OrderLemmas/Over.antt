@@ -137,7 +137,7 @@ over_by (Replier r) (PdIs src dst telegram) globals fits = tt
 over_by (Replier r) (MdIs src dst telegram) globals fits =
     replier_over r src dst telegram globals fits _ refl
 
--- as it is said of one that takes it
+-- as it is said of one that receives it
 pub over_replied :
     (object object_then : AnyObject) (telegram : TelegramModel) (globals : Globals) (fits : Bool)
     → object_then ≡ after_taking object telegram globals fits

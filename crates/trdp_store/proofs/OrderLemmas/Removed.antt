@@ -1,4 +1,4 @@
--- The schedule stays that of the table, as an object goes.
+-- The schedule stays that of the table, as an object is removed.
 -- For `Store::remove`.
 -- By: the order of its key goes, and no other object has that key.
 use Rattle.std.proofs.Common.{◌≡◌, ◌≢◌, ℕ, zero, suc, ◌<◌, List, [], ◌∷◌, length}
@@ -19,7 +19,7 @@ use Rattle.trdp_store.proofs.OrderLemmas.Added.{at_key}
 
 -- An object goes.
 
--- without the order of a key, if one is given
+-- without the order of a key, where the argument is a key
 abbrev pub without_order : List (Option Order) → Option ℕ → List (Option Order)
 without_order orders None = orders
 without_order orders (Some key) = set orders key None
@@ -85,7 +85,7 @@ module _ (table : TableState) (schedule after : ScheduleState)
             λ gone was. slots_apart t s g h keyed gone table (own_keys table sound) found was apart;
       })
 
-  -- what becomes of a key's order: that of the object that goes is taken away
+  -- what becomes of a key's order: that of the removed object is removed
   left_order : (k : ℕ)
       → ((gone : Keyed) → by_handle h (slot_in s table).objects ≡ Some gone → k ≢ gone.key)
       → slice_index_or after.orders k None ≡ slice_index_or schedule.orders k None
@@ -111,7 +111,7 @@ module _ (table : TableState) (schedule after : ScheduleState)
         bytes = ap (λ (ns : List ℕ). slice_index ns keyed.key) bytes ∙ timed.bytes;
       }
 
-  -- a key that has an order yet isn't that of the object that goes
+  -- a key that still has an order isn't that of the removed object
   not_gone : (k : ℕ) (order : Order) → slice_index_or after.orders k None ≡ Some order
       → (gone : Keyed) → by_handle h (slot_in s table).objects ≡ Some gone → k ≢ gone.key
   not_gone k order at gone was same =
@@ -127,7 +127,7 @@ module _ (table : TableState) (schedule after : ScheduleState)
       unset (o ∷ os) zero = refl
       unset (o ∷ os) (suc n) = unset os n
 
-  -- the object of another handle or slot is found yet
+  -- the object of another handle or slot is still found
   stays_found : (t g : ℕ) (keyed : Keyed) → by_handle g (slot_in t table).objects ≡ Some keyed
       → ((gone : Keyed) → by_handle h (slot_in s table).objects ≡ Some gone → keyed.key ≢ gone.key)
       → by_handle g (slot_in t table_left).objects ≡ Some keyed

@@ -1,6 +1,6 @@
 -- The rooms that a schedule knows are within bounds.
 -- For `Schedule::with_room`, `admit`, `change`, `due_room`, and the calls of `Store` on them.
--- By: an object's room is within the limits of one, and there are so many objects at most.
+-- By: an object's room is within the limits of one, and the number of objects has a limit.
 use Rattle.std.proofs.Common.{◌≡◌, ℕ, zero, suc, ◌*◌, ◌<◌, ◌≤◌, ◌^◌, List, []}
 use Rattle.std.proofs.Common.{◌∷◌, length, set, sum, Option, ap}
 use Rattle.std.proofs.Common.{arith, None, inl, inr, ◌+◌}
@@ -111,7 +111,7 @@ slots_room (x ∷ xs) slots =
 pub room_limited : (table : TableState) → IsTable table → room_of table ≤ 24576
 room_limited table sound = omega (arith, slots_room table sound.slots, sound.few)
 
--- Of an object that is over either its change or its going costs nothing.
+-- For an object that is over, its change or its removal costs nothing.
 
 pub over_costs : (change going b : ℕ) (before due : Option ℕ)
     → IsOver before due → (due ≡ before → change ≡ 0)

@@ -1,4 +1,5 @@
--- The index by session stays the image of the callers and repliers, as they come, change and go.
+-- The index by session stays the image of the callers and repliers, as they are added, change and
+-- are removed.
 -- For `Store::new`, `add`, `act` and `remove`, and for `SessionLemmas.Emptied`.
 -- By induction on the objects of the one slot that changes; other slots keep their keys.
 use Rattle.std.proofs.Common.{◌≡◌, ◌≢◌, ℕ, zero, suc, ◌+◌, ◌<◌, ◌≤◌, List, [], ◌∷◌, ◌++◌}
@@ -145,7 +146,7 @@ without_one s h es rows rows_then alone are keys = record {
         ∙ without_own own s (session_key own.0 s own.1 rows) in
         none-some k (sym none ∙ then)
 
-    -- another object of the slot isn't in the session of the one that went
+    -- another object of the slot isn't in the session of the one that was removed
     apart_from : (g : ℕ) (keyed : Keyed) (own : SessionId × Role) (o : Option Keyed)
         → by_handle h es ≡ o → g ≢ h → by_handle g es ≡ Some keyed
         → own_session keyed.object ≡ Some own → session_found o ≢ Some own

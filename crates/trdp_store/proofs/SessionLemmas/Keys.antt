@@ -1,4 +1,4 @@
--- Which key the index by session has, once an object came or went.
+-- Which key the index by session has, once an object was added or removed.
 -- For `SessionLemmas.Kept` and `Open`, and for what the node above finds by session.
 -- By cases: the object is in that session and role, in the same slot, or it changes nothing.
 use Rattle.std.proofs.Common.{◌≡◌, ◌≢◌, ℕ, List, Option, Some, None, Bool, true}
@@ -47,7 +47,7 @@ own_rank : (own : SessionId × Role) (s : ℕ)
     → is_same (session_rank own.0 s own.1) (session_rank own.0 s own.1) ≡ true
 own_rank own s = same_self own.0.0 s (role_number own.1)
 
--- Which key is found once an object came or went.
+-- Which key is found once an object was added or removed.
 
 -- that of a new object
 pub with_new : (own : SessionId × Role) (s key : ℕ) (known : Option ℕ)
@@ -103,7 +103,7 @@ without_found (Some its) s t k own known at =
     either true is at = absurd (none-some k (rw is at at))
     either false is at = rw is at at
 
--- that of another session or role is found yet
+-- that of another session or role is still found
 pub without_other :
     (o : Option (SessionId × Role)) (s k : ℕ) (own : SessionId × Role) (known : Option ℕ)
     → o ≢ Some own → known ≡ Some k → key_without o s own s known ≡ Some k

@@ -1,4 +1,4 @@
--- What an act of the object of a handle makes of the table.
+-- How an act of the object of a handle changes the table.
 -- For `Store::act`.
 -- By: the object that the handle reached is another one then, or is gone.
 use Rattle.std.proofs.Common.{◌≡◌, ℕ, ◌<◌, ◌++◌, length, Some}

@@ -1,4 +1,4 @@
--- How many of the objects have something, as they come, change and go.
+-- How many of the objects have something, as they are added, change and are removed.
 -- For `ComLemmas`, `SessionLemmas.Kept` and `OrderLemmas`, which bound what they list.
 -- By induction on the objects: a change at one handle counts there alone.
 use Rattle.std.proofs.Common.{◌≡◌, ◌≢◌, ℕ, ◌+◌, ◌<◌, ◌≤◌, List, [], ◌∷◌, ◌++◌, length, map}
@@ -55,7 +55,7 @@ room_added table table_then s object (Ok x) lt adds kept = ap room_of adds.table
     ∙ room-set table s (with_object adds.key object (slot_in s table)) lt refl
 room_added table table_then s object (Err y) lt adds kept = ap room_of kept
 
--- where no object has the handle none goes
+-- where no object has the handle none is removed
 pub without_none : (h : ℕ) (es : List Keyed) → by_handle h es ≡ None
     → filter (λ keyed. not (keyed.handle == h)) es ≡ es
 without_none h [] none = refl

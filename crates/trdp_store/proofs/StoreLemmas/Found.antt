@@ -1,4 +1,4 @@
--- What is found by handle among objects, as they come, change and go.
+-- What is found by handle among objects, as they are added, change and are removed.
 -- For `ComLemmas.Kept`, `SessionLemmas.Kept`, and `OrderLemmas`.
 -- By induction on the objects, whose handles rise.
 use Rattle.std.proofs.Common.{◌≡◌, ◌≢◌, ℕ, ◌<◌, List, [], ◌∷◌, ◌++◌, map, filter, not, Some}
@@ -24,7 +24,7 @@ at_each P s here others t = either (t == s) refl
         let apart : t ≢ s = grind (arith, nat_tests) in
         others t apart
 
--- An object comes.
+-- An object is added.
 
 pub found_last : (n : ℕ) (es : List Keyed) (e : Keyed)
     → AllBelow n es → e.handle ≡ n → by_handle n (es ++ e ∷ []) ≡ Some e
@@ -36,7 +36,7 @@ found_last n (x ∷ es) e below is =
     let other : (x.handle == n) ≡ false = grind (arith, nat_tests) in
     rw other (found_last n es e below.1 is)
 
--- one that was there is found yet
+-- one that was there is still found
 pub found_before : (h : ℕ) (es : List Keyed) (e keyed : Keyed)
     → by_handle h es ≡ Some keyed → by_handle h (es ++ e ∷ []) ≡ Some keyed
 found_before h [] e keyed at = absurd (none-some keyed at)
@@ -48,7 +48,7 @@ found_before h (x ∷ es) e keyed at = either (x.handle == h) refl at (found_bef
     either true is at rest = rw is (rw is at at)
     either false is at rest = rw is (rest (rw is at at))
 
--- what is found was there, or came
+-- what is found was there, or was added
 pub found_added : {P : Type 0} (h : ℕ) (es : List Keyed) (e keyed : Keyed)
     → by_handle h (es ++ e ∷ []) ≡ Some keyed
     → (by_handle h es ≡ Some keyed → P) → (e ≡ keyed → P) → P
@@ -66,7 +66,7 @@ found_added {P} h (x ∷ es) e keyed at old new =
     either true is at old rest = old (rw is (rw is at at))
     either false is at old rest = rest (rw is at at) (λ there. old (rw is there))
 
--- An object goes.
+-- An object is removed.
 
 pub found_without : (h g : ℕ) (es : List Keyed)
     → g ≢ h → by_handle g (filter (λ keyed. not (keyed.handle == h)) es) ≡ by_handle g es

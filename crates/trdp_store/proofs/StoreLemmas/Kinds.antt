@@ -1,7 +1,7 @@
--- Each object stays of the kind that the table notes of it, so that the table counts for quotas
+-- Each object stays of the kind that the table records for it, so that the table counts for quotas
 -- what the slots' model counts.
 -- For `Store::new`, `add`, `act`, `remove`, `reset`, `refuses` and `usage`.
--- By: an act keeps an object's kind, and a new object is noted under its own.
+-- By: an act keeps an object's kind, and a new object is recorded under its own.
 use Rattle.std.proofs.Common.{◌≡◌, ℕ, zero, suc, ◌<◌, List, [], ◌∷◌, ◌++◌, length, map}
 use Rattle.std.proofs.Common.{filter, not, Some, None, Bool, true, false, cond}
 use Rattle.std.proofs.Common.{refl, ◌∙◌, sym, ap, subst, arith}
@@ -31,7 +31,7 @@ use Rattle.trdp_store.specs.OfKind.{AreOfKind, AllOfKind}
 use Rattle.trdp_store.proofs.StoreLemmas.Slots.{ExchangesAlone, IsReached}
 use Rattle.trdp_store.proofs.StoreLemmas.Found.{at_each}
 
--- What the notes are good for.
+-- What the recorded kinds are used for.
 
 counted_alike : (kind : Kind) (ks : List Keyed) → AreOfKind ks
     → keyed_count kind ks ≡ kind_count kind (map entry_of_keyed ks)

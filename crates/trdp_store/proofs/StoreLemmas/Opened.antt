@@ -1,4 +1,4 @@
--- A store in which one slot more is opened, empty: what its parts know of the others stays true.
+-- A store in which one more slot is opened, empty: what its parts know of the others stays true.
 -- For `Store::open_slot`.
 -- By: the new slot has no object, so that rows, sessions and orders are those of the others.
 use Rattle.std.proofs.Common.{zero, suc, ◌≡◌, ℕ, ◌+◌, ◌≤◌, List, [], ◌∷◌, ◌++◌, length, refl, ◌∙◌}
@@ -110,7 +110,7 @@ pub still_of_kind : (table : TableState) (quotas : List ℕ)
     → AllOfKind table → AllOfKind (table ++ opened_slot quotas ∷ [])
 still_of_kind table quotas all = λ s. rw (objects_stay s table quotas) (all s)
 
--- An index that has more room is the table's yet.
+-- An index that has more room is still that of the table.
 
 pub roomier_indexed : (table : TableState) (coms coms_then : ComIndexState) (room : ℕ)
     → IsIndexed table coms → coms_then ≡ record coms { room = max coms.room room }

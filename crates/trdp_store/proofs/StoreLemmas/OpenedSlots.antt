@@ -1,6 +1,6 @@
 -- A slot that the table opens, without keys.
 -- For `Node::step_add_slot` above.
--- By definition: an empty slot behind the others.
+-- By definition: an empty slot after the others.
 use Rattle.std.proofs.Common.{◌≡◌, ℕ, List, [], ◌∷◌, ◌++◌}
 use Rattle.std.proofs.lemmas.List.{map-append}
 use Rattle.trdp_table.specs.Tables.{TableState, opened_slot as opened_entry}

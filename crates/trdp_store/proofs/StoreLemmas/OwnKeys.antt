@@ -1,6 +1,7 @@
 -- No two objects of a table have one key.
 -- For `OrderLemmas.Changed` and `Removed`, and for `DueLemmas`.
--- By induction on all objects: a key that is found stands before all others that have it.
+-- By induction on all objects: the object that is found by a key comes before all others that have
+-- it.
 use Rattle.std.proofs.Common.{◌≡◌, ◌≢◌, ℕ, zero, suc, ◌<◌, List, [], ◌∷◌, ◌++◌, length, map}
 use Rattle.std.proofs.Common.{Some, None, Bool, true, false, refl, ◌∙◌, sym, ap, arith}
 use Rattle.std.specs.Prelude.{◌==◌}
@@ -61,7 +62,7 @@ has_key h (e ∷ es) keyed at none = either (e.handle == h) refl at (has_key h e
         none-some e (sym (rw own at none))
     either false is at rest = rest (rw is at at) (key_append keyed.key (e ∷ []) es none).1
 
--- none behind a list has the key of an object in it
+-- none after a list has the key of an object in it
 front_none : (g : ℕ) (xs ys : List Keyed) (a : Keyed)
     → HaveOwnKeys (xs ++ ys) → by_handle g xs ≡ Some a → by_key a.key ys ≡ None
 front_none g [] ys a own at = absurd (none-some a at)

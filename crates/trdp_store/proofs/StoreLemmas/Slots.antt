@@ -58,7 +58,7 @@ pub slots_changed : (table : TableState) (s : ℕ) (change : SlotTable → SlotT
     ≡ slice_set (slots_of table) s (slot_of (change (slot_in s table)))
 slots_changed table s change = map-set slot_of table s (change (slot_in s table))
 
--- the same, by the slot that came of it
+-- the same, by the slot that resulted from it
 pub slots_of_changed : (table table_then : TableState) (s : ℕ) (change : SlotTable → SlotTable)
     → s < length table → table_then ≡ changed_at s change table
     → slots_of table_then ≡ slice_set (slots_of table) s (slot_at s table_then)
@@ -150,7 +150,7 @@ touched table s h keyed object is =
     ∙ (slots_changed table s (with_other_by_handle h object)
     ∙ ap (slice_set (slots_of table) s) (touched_slot h object (slot_in s table)))
 
--- An object goes.
+-- An object is removed.
 
 removed_objects : (h : ℕ) (objects : List Keyed)
     → map entry_of_keyed (filter (λ keyed. not (keyed.handle == h)) objects)
@@ -185,7 +185,7 @@ removed table s h =
 
 -- How an object is reached by its handle or its index.
 
--- the object of a handle is the one that its key gives
+-- the object of a handle is that of its key
 abbrev pub KeysGive : TableState → Type 0
 KeysGive table =
     (s handle : ℕ) (keyed : Keyed) → by_handle handle (slot_in s table).objects ≡ Some keyed
@@ -205,7 +205,7 @@ handle_found h (k ∷ ks) keyed at = either (k.handle == h) refl at (handle_foun
         ap (λ (x : Keyed). x.handle) (sym same) ∙ of
     either false is at rest = rest (rw is at at)
 
--- the object of a key that a handle gives
+-- the object of a handle's key
 pub keyed_found : (table : TableState) (s h key : ℕ) → KeysGive table
     → Some key ≡ option_map (λ keyed. keyed.key) (by_handle h (slot_in s table).objects)
     → by_key key (all_objects table) ≡ by_handle h (slot_in s table).objects
@@ -236,7 +236,7 @@ none_found table s h is =
     entry_found h (slot_in s table).objects ∙ ap (option_map entry_of_keyed)
     (no_key (λ keyed. keyed.key) (by_handle h (slot_in s table).objects) is)
 
--- the object that the key of a handle gives is that of the slot
+-- the object of the key of a handle is that of the slot
 pub object_found : (table : TableState) (s h key : ℕ) → KeysGive table
     → Some key ≡ option_map (λ keyed. keyed.key) (by_handle h (slot_in s table).objects)
     → option_map (λ keyed. keyed.object) (by_key key (all_objects table))
@@ -270,7 +270,7 @@ added table table_then s object adds =
     slice_set (slots_of table) s x)
     (map-append entry_of_keyed slot.objects (new_object slot.next adds.key object ∷ []))
 
--- How the object that a handle gives acts.
+-- How the object of a handle acts.
 
 -- where the object of a handle becomes another one, all other objects stay
 abbrev pub ExchangesAlone : TableState → Type 0
@@ -322,7 +322,7 @@ reached_touched table s h key object object_then alone r =
     ap (λ (k : ℕ). slots_of (exchanged k table object_then)) r.key_is
     ∙ touched table s h r.keyed object_then (alone s h r.keyed object_then r.found)
 
--- what goes goes whatever it became before
+-- what is removed is removed, whatever it was exchanged for before
 acted-twice : (h : ℕ) (object : AnyObject) (objects : List Entry)
     → acted h None (acted h (Some object) objects) ≡ acted h None objects
 acted-twice h object [] = refl
@@ -338,7 +338,7 @@ acted-twice h object (e ∷ es) =
     either true is = rw is (rw is refl)
     either false is = rw is (rw is refl)
 
--- the slots once it became another one and then went
+-- the slots once it became another one and then was removed
 pub reached_removed : (table : TableState) (s h key : ℕ) (object object_then : AnyObject)
     → s < length table → ExchangesAlone table → IsReached table s h key object
     → slots_of (changed_at s (without_handle h) (exchanged key table object_then))
@@ -366,7 +366,7 @@ reached_removed table s h key object object_then lt alone r =
     ∙ set-set (slots_of table) s (slot_of (change (slot_in s table))) (end slot_then)
     ∙ ap (slice_set (slots_of table) s) ended
 
--- where its key gives no object the slot has none of that handle
+-- where its key has no object the slot has none of that handle
 pub none_reached : (table : TableState) (s h key : ℕ) → KeysGive table
     → Some key ≡ option_map (λ keyed. keyed.key) (by_handle h (slot_in s table).objects)
     → None ≡ option_map (λ keyed. keyed.object) (by_key key (all_objects table))

@@ -1,4 +1,4 @@
-//! A slot is opened behind those that are there.
+//! A slot is opened after the present ones.
 
 ghost use Rattle.std.specs.Prelude.{◌≡◌, ◌<◌, ◌++◌, [], ◌∷◌, length, IfOk, OnOk, OnErr};
 ghost use Rattle.trdp_model.specs.Slots.{slot_limit};
@@ -10,7 +10,7 @@ use trdp_base::Quotas;
 use trdp_outbox::Outbox;
 use trdp_table::{Table, room_of};
 
-/// Opens one more slot of a table that has fewer than 16, and answers its number.
+/// Opens one more slot of a table that has fewer than 16, and returns its number.
 fn add_slot(table: &mut Table, quotas: Quotas) -> Result<u16, AllocError>
     ensures slot { IfOk result (λ slot. slot ≡ length table.old) }
     ensures added { OnOk result (table.new ≡ table.old ++ opened_slot quotas ∷ []) }
@@ -23,10 +23,10 @@ fn add_slot(table: &mut Table, quotas: Quotas) -> Result<u16, AllocError>
 }
 
 impl Store {
-    /// Opens one more slot, empty, with these quotas, under the next number, which it answers, and
-    /// makes room for its record in the outbox. All memory is taken before the first change that
-    /// shows: for the due moments, both indexes, the outbox, and last for the table, which opens
-    /// the slot.
+    /// Opens one more slot, empty, with these quotas, under the next number, and returns that
+    /// number. It makes room for its record in the outbox. All memory is taken before the first
+    /// change that shows: for the due moments, both indexes, the outbox, and last for the table,
+    /// which opens the slot.
     ///
     /// # Errors
     /// [`AllocError`] where there is no such memory. What had grown before keeps its larger room,

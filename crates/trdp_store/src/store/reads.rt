@@ -50,7 +50,7 @@ impl Store {
     }
 
     /// Why a slot takes no further object of a kind: the first that applies of its quota and its
-    /// handles, as [`Store::add`] answers it.
+    /// handles, as [`Store::add`] reports it. None where it takes one.
     #[tactic(auto, using(crate::proofs::StoreLemmas::Kinds::refused_alike))]
     pub fn refuses(&self, slot: u16, kind: Kind) -> Option<TableFault>
         requires { slot < length self.now }
@@ -61,7 +61,7 @@ impl Store {
         self.table.refuses(slot, kind)
     }
 
-    /// How many objects of a kind a slot has, and how many it may have, at most 256.
+    /// How many objects of a kind a slot has, and how many it may have, each at most 256.
     pub fn usage(&self, slot: u16, kind: Kind) -> (u16, u16)
         requires { slot < length self.now }
         ensures count { result.0 ≡ kind_count kind (slot_at slot self.now).objects }

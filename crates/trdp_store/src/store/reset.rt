@@ -13,8 +13,8 @@ use crate::schedule::Schedule;
 use crate::store::Store;
 use trdp_table::Table;
 
-/// Takes a slot's object of that index, by rising handle from 0, out of the table and the schedule;
-/// all others stay. It answers how often it compared two orders.
+/// Takes a slot's object of that index, by rising handle from 0, out of the table and the
+/// schedule; all others stay. It returns how often it compared two orders.
 fn take_at(table: &mut Table, schedule: &mut Schedule, slot: u16, index: usize) -> u64
     requires slot { slot < length table.old }
     requires index { index < length (slot_in slot table.old).objects }
@@ -41,7 +41,7 @@ fn take_at(table: &mut Table, schedule: &mut Schedule, slot: u16, index: usize) 
 }
 
 /// Takes a slot's objects, the last first, out of the table and the schedule; all others stay. It
-/// answers how often it compared two orders.
+/// returns how often it compared two orders.
 fn take_all(table: &mut Table, schedule: &mut Schedule, slot: u16) -> u64
     requires slot { slot < length table.old }
     requires scheduled { IsScheduled table.old schedule.old }
@@ -60,9 +60,9 @@ fn take_all(table: &mut Table, schedule: &mut Schedule, slot: u16) -> u64
 }
 
 impl Store {
-    /// Takes all objects of a slot out of the store; its next handle stays, and every other slot is
-    /// as it was. It goes once through each index, and takes the slot's objects, the last first,
-    /// out of the table and the schedule. It answers how often it compared two orders.
+    /// Takes all objects of a slot out of the store; its next handle stays, and every other slot
+    /// is as it was. It goes once through each index, and takes the slot's objects, the last
+    /// first, out of the table and the schedule. It returns how often it compared two orders.
     pub fn reset(&mut self, slot: u16) -> u64
         requires slot { slot < length self.old }
         ensures table { self.new ≡ changed_at slot without_objects self.old }

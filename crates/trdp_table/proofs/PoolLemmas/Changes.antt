@@ -1,4 +1,4 @@
--- The pool stays one as keys are given and taken back, and objects lent.
+-- A pool stays a pool as keys are used and freed, and objects are lent.
 -- For `Pool::insert`, `remove` and `object_mut`.
 -- By: the key that changes is the last free one or becomes it, and all others stay.
 use Rattle.std.proofs.Common.{◌≡◌, ◌≢◌, ◌≤◌, ◌<◌, ◌+◌, inl, inr, ℕ, zero, suc, List, [], ◌∷◌}
@@ -107,7 +107,7 @@ seen_insert s t ps free capacity key k x is vacant u =
     ∙ ap (λ (r : PoolState). set r key (Some x))
     (seen_same s t k (Some x) ps u (unnamed s ps free capacity k is vacant))
 
--- A key is taken back.
+-- A key is freed.
 
 -- a key under which something is held has a place
 pub place_there : (s : Slab Held) (ps : Places) (key : ℕ)

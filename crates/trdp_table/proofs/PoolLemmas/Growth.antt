@@ -1,6 +1,6 @@
--- The pool stays one as it gets room and keys.
+-- A pool stays a pool as it gets room and keys.
 -- For `Pool::grow` and `add_keys`.
--- By: what was held is held yet, and a new key is free and has no place.
+-- By: what was held is still held, and a new key is free and has no place.
 use Rattle.std.proofs.Common.{◌≡◌, ◌≢◌, ◌≤◌, ◌+◌, inl, inr, ℕ, zero, suc, List, [], ◌∷◌, ◌++◌}
 use Rattle.std.proofs.Common.{length, map, get_or, Option, Some, None, cond, is_some, count_by}
 use Rattle.std.proofs.Common.{refl, sym, ap, ◌∙◌, subst, arith}
@@ -41,7 +41,7 @@ kept_wider s t ps free capacity wider is same slab list = record {
   reserved = omega (arith, is.reserved, list);
 }
 
--- Free keys come.
+-- Free keys are added.
 
 -- the keys from k on, and one more
 pub keys_more : (k n : ℕ) → range_with_len k n ++ (k + n) ∷ [] ≡ range_with_len k (n + 1)
@@ -128,7 +128,7 @@ seen_free : (s : Slab Held) (n : ℕ) → map (placed s) (replicate n None) ≡ 
 seen_free s zero = refl
 seen_free s (suc n) = ap (λ (r : PoolState). None ∷ r) (seen_free s n)
 
--- free keys that come to a slab with more room
+-- free keys are added to a slab with more room
 pub seen_keys : (s t : Slab Held) (n : ℕ) (ps : Places) → t.slots ≡ s.slots
     → map (placed t) (ps ++ replicate n None) ≡ map (placed s) ps ++ replicate n None
 seen_keys s t n ps same =

@@ -1,4 +1,4 @@
--- What is true of each slot stays true as objects come and go.
+-- What is true of each slot stays true as objects are added and removed.
 -- For `Slot::add`, `remove`, `raise` and `count`, and for all that `TableLemmas` say of slots.
 -- By induction on the entries: handles stay below the next one, and each kind within its quota.
 use Rattle.std.proofs.Common.{◌≡◌, ℕ, zero, suc, ◌+◌, ◌<◌, ◌≤◌, max, List, []}

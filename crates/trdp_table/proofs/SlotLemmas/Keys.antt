@@ -10,7 +10,7 @@ use Rattle.trdp_table.specs.declared.entry.Entry.{Entry}
 use Rattle.trdp_table.specs.Entries.{entry_of, key_of, AreAbove, AreBelow, AreRising}
 use Rattle.trdp_table.proofs.SlotLemmas.Kept.{filter_above, handle_found}
 
--- An entry more.
+-- One more entry.
 
 pub key_of-more : (h k : ℕ) (es : List Entry) (e : Entry)
     → key_of h es ≡ Some k → key_of h (es ++ e ∷ []) ≡ Some k
@@ -55,7 +55,7 @@ key_of-push h k (x ∷ es) e at = either (x.handle == h) refl at (key_of-push h 
       | inr new ↦ inr new
     ]
 
--- An entry less.
+-- One entry fewer.
 
 pub key_of-without : (h g : ℕ) (es : List Entry)
     → g ≢ h → key_of g (filter (λ entry. not (entry.handle == h)) es) ≡ key_of g es

@@ -1,4 +1,4 @@
--- What is true of each table stays true as an object comes, goes, or becomes another one.
+-- What is true of each table stays true as an object is added, removed or exchanged.
 -- For `Table::install`, `remove` and `raise`.
 -- By: one slot and one key of the pool change, and what both keep is put together again.
 use Rattle.std.proofs.Common.{◌≡◌, ◌≢◌, inl, inr, ℕ, zero, suc, ◌+◌, ◌<◌, ◌≤◌, is_some}

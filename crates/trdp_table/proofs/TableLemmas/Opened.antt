@@ -1,4 +1,4 @@
--- A slot more is opened, and its keys come to the pool.
+-- One more slot is opened, and its keys are added to the pool.
 -- For `Table::add_slot`.
 -- By: the new slot is empty and the new keys are free, so that what is seen of the others stays.
 use Rattle.std.proofs.Common.{◌≡◌, ℕ, zero, suc, ◌+◌, ◌<◌, List, [], ◌∷◌, ◌++◌, length, is_some}
@@ -20,7 +20,7 @@ use Rattle.trdp_table.proofs.SlotLemmas.Kept.{AreSlotEntries-opened}
 use Rattle.trdp_table.proofs.PoolLemmas.Places.{no_held}
 use Rattle.trdp_table.proofs.TableLemmas.Seen.{objects_seen}
 
--- a pool with so many free keys more
+-- a pool with n more free keys
 abbrev with_keys : PoolState → ℕ → PoolState
 with_keys pool n = pool ++ replicate n None
 

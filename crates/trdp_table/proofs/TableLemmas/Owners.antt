@@ -1,6 +1,6 @@
 -- A key is that of one object: the pool holds under it the slot and the handle that name it.
 -- For `TableLemmas.Found`.
--- By induction on the slots: an owner's slot and handle stand in one entry of one slot.
+-- By induction on the slots: an owner's slot and handle are those of one entry of one slot.
 use Rattle.std.proofs.Common.{◌≡◌, ◌≢◌, ℕ, zero, suc, ◌+◌, ◌<◌, ◌≤◌, List, []}
 use Rattle.std.proofs.Common.{◌∷◌, ◌++◌, map, set, Option, Some, None, Bool}
 use Rattle.std.proofs.Common.{true, false, refl, ◌∙◌, sym, ap, subst, arith}

@@ -162,7 +162,7 @@ same_owner s t g h same =
     let pair = same_Some {A = ℕ × ℕ} (s, g) (t, h) same in
     (ap (λ (p : ℕ × ℕ). p.0) pair, ap (λ (p : ℕ × ℕ). p.1) pair)
 
--- a key that is nobody's
+-- a key that belongs to no object
 pub apart_unowned : (pool : PoolState) (s key : ℕ) (es : List Entry)
     → AllOwned pool s es → ((h : ℕ) → owner_in pool key ≢ Some (s, h)) → AllApart key es
 apart_unowned pool s key [] owned none = tt

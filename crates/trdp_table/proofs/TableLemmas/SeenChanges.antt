@@ -1,4 +1,4 @@
--- What is seen of the tables as an object comes, goes, or becomes another one.
+-- What is seen of the tables as an object is added, removed or exchanged.
 -- For `Table::install`, `remove` and `raise`.
 -- By: one slot changes, and no other has the key whose object does.
 use Rattle.std.proofs.Common.{◌≡◌, ◌≢◌, ℕ, ◌<◌, List, [], length, map, set}
@@ -82,7 +82,7 @@ adds slots pool s key object is within vacant = record {
   table = add_seen slots pool s key object is within vacant;
 }
 
--- Nothing goes where there is nothing.
+-- Nothing is removed where there is nothing.
 
 no_entry : (h : ℕ) (es : List Entry) → key_of h es ≡ None → entry_of h es ≡ None
 no_entry h es none = either (entry_of h es) refl none

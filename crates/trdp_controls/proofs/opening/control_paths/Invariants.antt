@@ -5,7 +5,7 @@ use Rattle.trdp_controls.specs.Folders.{file_unless_0, number_unless_0, numbers_
 use Rattle.trdp_controls.proofs.ListenLemmas.{Listened}
 use Rattle.trdp_controls.proofs.opening.control_paths.Given as goal
 
--- somebody listens at all files but those of the slots to come, which have their paths
+-- a process listens at all files but those of the slots to come, which have their paths
 abbrev pub invariant-loop-slot : goal.invariant-loop-slot
 invariant-loop-slot g l =
     Listened (flat_map file_unless_0 (control_numbers l.config))

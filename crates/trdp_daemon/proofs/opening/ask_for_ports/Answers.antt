@@ -33,7 +33,7 @@ network_asked f config number a b is all =
     (asked_more f (ports_of config) (network_ports config) (line_ports config) a a b
     (all_first f config a) all)
 
--- all was asked but for the control ports of a slot and those behind it
+-- all was asked but for the control ports of a slot and those after it
 next_slot : (f : Port → SocketCall) (config : ConfigModel) (slot : ℕ)
     (a b : Option (List SocketCall)) → slot < length (control_numbers config)
     → Asked f (ports_of config) a b (control_ports slot (drop slot (control_numbers config)))

@@ -4,7 +4,7 @@ use Rattle.trdp_outbox.specs.SlotOrder.{by_slot}
 use Rattle.trdp_daemon.specs.Tellings.{Tells}
 use Rattle.trdp_daemon.proofs.telling.tell_records.Given as goal
 
--- what the records send that came was offered, and the others are still to come
+-- what the records that came send was offered, and the others are still to come
 abbrev pub invariant-loop-record : goal.invariant-loop-record
 invariant-loop-record g l = record {
   can : (goal.iterator-loop-record g).can_next l.record-iterator;

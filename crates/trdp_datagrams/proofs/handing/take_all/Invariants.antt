@@ -7,7 +7,8 @@ use Rattle.trdp_datagrams.proofs.DatagramLemmas.Handed.{aim_of}
 use Rattle.trdp_datagrams.proofs.DatagramLemmas.HandedInTurn.{Goes}
 use Rattle.trdp_datagrams.proofs.handing.take_all.Given as goal
 
--- those that were noted and haven't had the telegram lead to what it makes of the slots
+-- those that were noted and haven't had the telegram lead to the slots as the telegram changes
+-- them
 abbrev pub invariant-loop-addressee : goal.invariant-loop-addressee
 invariant-loop-addressee l = record {
   goes : Goes (aim_of (setup_of l.setting.config.now) (telegram_model l.telegram)

@@ -5,7 +5,8 @@ use Rattle.trdp_store.specs.TableSlots.{slots_of}
 use Rattle.trdp_datagrams.proofs.DatagramLemmas.AskedInTurn.{GoesAsking, request_of}
 use Rattle.trdp_datagrams.proofs.requests.ask_all.Given as goal
 
--- the slots of those that were noted and haven't had the request lead to what it makes of the slots
+-- the slots of those that were noted and haven't had the request lead to the slots as it changes
+-- them
 abbrev pub invariant-loop-listener : goal.invariant-loop-listener
 invariant-loop-listener l = record {
   goes : GoesAsking (request_of (telegram_model l.telegram) l.globals (slots_of l.fn.store)

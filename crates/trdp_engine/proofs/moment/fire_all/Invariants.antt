@@ -2,7 +2,7 @@ use Rattle.trdp_engine.proofs.MomentLemmas.AllFire.{IsMoving, due_left}
 use Rattle.trdp_engine.proofs.CostLemmas.Moments.{IsCounting}
 use Rattle.trdp_engine.proofs.moment.fire_all.Given as goal
 
--- what was recorded and what is left to fire give the whole moment, and so do the counts
+-- what was recorded and what is left to fire are the whole moment, and so are the counts
 abbrev pub invariant-loop-next : goal.invariant-loop-next
 invariant-loop-next l = record {
   moving : IsMoving l.globals l.fn.store l.fn.out.records l.store l.out;

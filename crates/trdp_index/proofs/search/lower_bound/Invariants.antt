@@ -2,7 +2,7 @@ use Rattle.std.proofs.Common.{◌≡◌, ◌≤◌, ◌<◌, ◌-◌, ◌+◌, �
 use Rattle.trdp_index.specs.Rows.{AllBefore, NoneBefore}
 use Rattle.trdp_index.proofs.search.lower_bound.Given as goal
 
--- what stands before `low` comes before the rank, nothing from `high` on does, and each comparison
+-- the rows before `low` come before the rank, no row from `high` on does, and each comparison
 -- halved what is between
 abbrev pub invariant-loop-low : goal.invariant-loop-low
 invariant-loop-low g l = record {

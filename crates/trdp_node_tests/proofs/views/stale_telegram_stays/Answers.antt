@@ -41,7 +41,7 @@ stale_refused s src dst telegram globals fits is =
 abbrev entry_with : SubscriptionState → Entry
 entry_with s = record { handle = 1; object = Subscription s }
 
--- a subscription that is handed a stale telegram does nothing
+-- a subscription that receives a stale telegram does nothing
 stale_ignored :
     (s : SubscriptionState) (src dst : Place) (telegram : PdTelegram) (globals : Globals)
     (fits : Bool) → is_stale s.latest src.ip telegram.head ≡ true

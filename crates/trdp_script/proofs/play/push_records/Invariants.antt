@@ -5,7 +5,7 @@ use Rattle.trdp_outbox.specs.SlotOrder.{by_slot}
 use Rattle.trdp_script.specs.RecordText.{text_of_record}
 use Rattle.trdp_script.proofs.play.push_records.Given as goal
 
--- the text of the records that came, behind which the others are still to come
+-- the text of the records that came, followed by that of the others
 abbrev pub invariant-loop-record : goal.invariant-loop-record
 invariant-loop-record l = record {
   can : (goal.iterator-loop-record).can_next l.record-iterator;

@@ -35,7 +35,7 @@ use Rattle.trdp_engine.proofs.node.Node.step_datagram.Goals.{in-Md+in_default-re
 use Rattle.trdp_engine.proofs.node.Node.step_datagram.Goals.{in_default-read_md-via-in-Ok-read_md+else-topo_valid-2}
 use Rattle.trdp_engine.proofs.node.Node.step_datagram.Goals.{in_default-read_md-via-in_default-read_md}
 
--- the bytes are read, and the counts compared
+-- the bytes are read, and the topology counters compared
 admitted : (c : After-none-counts) → IsAdmitted c.self.inside.globals
     (telegram_of c.args.protocol c.args.src c.args.dst c.args.bytes.now)
     (option_map telegram_model c.match-protocol.telegram)
@@ -88,7 +88,7 @@ admitted c = elim c.match-protocol.branch [
   ]
 ]
 
--- the telegram that is taken came, and its counts match
+-- the telegram that is accepted came, and its topology counters match
 told : (c : After-none-counts) (telegram : Telegram) → c.match-protocol.telegram ≡ Some telegram
     → Comes c.self.inside.globals
     (telegram_of c.args.protocol c.args.src c.args.dst c.args.bytes.now)
