@@ -1,4 +1,4 @@
--- What a wire makes of its network and of its paths.
+-- What a wire does with its network and its paths.
 use Rattle.std.specs.Prelude.{◌≡◌, ℕ, ◌^◌, ◌-◌, ◌&&◌, not, nat_lt, List, [], ◌∷◌}
 use Rattle.std.specs.Prelude.{Option, Some, None, Result, Ok, Err, Bool, true, false}
 use Rattle.std.specs.Prelude.{option_map, is_err}
@@ -16,7 +16,7 @@ use Rattle.trdp_controls.specs.declared.control_wire.ControlWire.{ControlWire}
 use Rattle.trdp_daemon.specs.Told.{TellsMore, Give, Taking, give_of, taking_of}
 use Rattle.trdp_controls.specs.Places.{number_of_place, place_of_number}
 
--- what was found at a take, a fault being nothing
+-- what was found at a take; a fault is nothing
 abbrev pub found_in : {X E : Type 0} → Result (Option X) E → Option X
 found_in (Ok found) = found
 found_in (Err fault) = None
@@ -29,10 +29,11 @@ placed found = (place_of_number found.0, found.1)
 -- places had ended
 pub record TakesOverNetwork (takings takings_then : Option (List Taking)) (port : Port)
     (ended : Place → Bool) (result : Result (Option (Place × ℕ)) WireFault)
-    (room_then : List ℕ) : Type 0 where
+    (room_then : List ℕ) (failures : ℕ) : Type 0 where
   pub answer : Result (Option (Place × ℕ)) WireFault
   pub told : TellsMore takings takings_then (taking_of port ended answer room_then ∷ [])
   pub found : found_in result ≡ found_in answer
+  pub fault : is_err result ≡ is_err answer && nat_lt failures (2 ^ 64 - 1)
 
 -- a give at one of the network's ports is a give of the network
 pub record GivesOverNetwork (gives gives_then : Option (List Give)) (port : Port) (to : Place)
@@ -157,13 +158,13 @@ has_ended ended_in wire Operator place = false
 has_ended ended_in wire (Control slot) place =
     has_ended_at (control_at wire.controls.items slot) place
 
--- of the network nothing was taken, and nothing given to it
+-- nothing was taken from the network, and nothing given to it
 pub record IsUnasked {N : Type 0} (takings_in : N → Option (List Taking))
     (gives_in : N → Option (List Give)) (network network_then : N) : Type 0 where
   pub takings : takings_in network_then ≡ takings_in network
   pub gives : gives_in network_then ≡ gives_in network
 
--- a take at the path of a port where the system has told news, and one where it hasn't
+-- a take at the path of a port where the system has reported news, and one where it hasn't
 abbrev pub IfNews : {N C : Type 0} → Bool → (old new : ControlWire N C)
     → Result (Option (Place × ℕ)) WireFault → Type 0 → Type 0
 IfNews true old new result Takes = Takes
@@ -178,21 +179,21 @@ abbrev pub TakesAtPort : {N C : Type 0} → (takings_in : N → Option (List Tak
     → (room : ℕ) → Result (Option (Place × ℕ)) WireFault → (room_then : List ℕ) → Type 0
 TakesAtPort takings_in gives_in ended_in calls_of has_news old new Pd room result room_then =
     TakesOverNetwork (takings_in old.network) (takings_in new.network) Pd
-    (ended_in new.network Pd) result room_then
+    (ended_in new.network Pd) result room_then old.failures
     × (new.operator ≡ old.operator) × (new.controls.items ≡ old.controls.items)
 TakesAtPort takings_in gives_in ended_in calls_of has_news old new Md room result room_then =
     TakesOverNetwork (takings_in old.network) (takings_in new.network) Md
-    (ended_in new.network Md) result room_then
+    (ended_in new.network Md) result room_then old.failures
     × (new.operator ≡ old.operator) × (new.controls.items ≡ old.controls.items)
 TakesAtPort takings_in gives_in ended_in calls_of has_news old new (PdGroup group) room result
     room_then =
     TakesOverNetwork (takings_in old.network) (takings_in new.network) (PdGroup group)
-    (ended_in new.network (PdGroup group)) result room_then
+    (ended_in new.network (PdGroup group)) result room_then old.failures
     × (new.operator ≡ old.operator) × (new.controls.items ≡ old.controls.items)
 TakesAtPort takings_in gives_in ended_in calls_of has_news old new (MdGroup group) room result
     room_then =
     TakesOverNetwork (takings_in old.network) (takings_in new.network) (MdGroup group)
-    (ended_in new.network (MdGroup group)) result room_then
+    (ended_in new.network (MdGroup group)) result room_then old.failures
     × (new.operator ≡ old.operator) × (new.controls.items ≡ old.controls.items)
 TakesAtPort takings_in gives_in ended_in calls_of has_news old new Operator room result room_then =
     IfNews has_news old new result

@@ -17,16 +17,17 @@ use trdp_lines::{Connections, ControlPath, OperatorPath};
 const NO_BUFFER_SPACE: i32 = 105;
 
 /// The wire of a node whose lines come over connections at paths: process data and message data go
-/// over a wire of the network, the lines of the operator and of the applications over the paths. It
-/// tells no takes and gives; what it makes of those of the network, and of the calls of the
-/// connections, its contracts say.
+/// over a wire of the network, the lines of the operator and of the applications over the paths.
+/// It reports no takes and gives; its contracts say what it makes of those of the network, and of
+/// the calls of the connections.
 #[derive(Drop)]
 pub struct ControlWire<N: Wire, C: Connections> {
-    /// The ports of process data and message data.
+    /// The wire of the network, with the ports of process data and message data.
     network: N,
     /// The path of the operator's port; None where the configuration names none.
     operator: Option<OperatorPath<C>>,
-    /// The path of the control port of each slot; None where the configuration names none.
+    /// The path of the control port of each slot, at the slot's index; None where the
+    /// configuration names none.
     controls: Vec<Option<ControlPath<C>>>,
     /// How often a take or a give failed, at most 2^64 - 1.
     failures: u64,
@@ -78,7 +79,7 @@ impl<N: Wire, C: Connections> ControlWire<N, C> {
     ) -> Result<Option<(Place, usize)>, WireFault>
         ensures within { IfOk result (λ found. IfSome found (λ f. f.1 ≤ length room.new)) }
         ensures takes { TakesOverNetwork (N.takings self.old.network) (N.takings self.new.network)
-            port (N.ended self.new.network port) result room.new }
+            port (N.ended self.new.network port) result room.new self.old.failures }
         ensures fault { OnErr result (self.old.failures < self.new.failures) }
         ensures operator { self.new.operator ≡ self.old.operator }
         ensures controls { self.new.controls ≡ self.old.controls }
@@ -132,8 +133,8 @@ impl<N: Wire, C: Connections> ControlWire<N, C> {
         found
     }
 
-    /// Notes what a take at a path came to. Where nothing was heard nothing is there, up to the next
-    /// news of it; one that failed is made again.
+    /// Notes the result of a take at a path. Where nothing was heard, nothing is there up to the
+    /// next news of it; a take that failed is made again.
     fn note(&mut self, port: Port, heard: bool, is_sound: bool)
         ensures network { IsUnasked N.takings N.gives self.old.network self.new.network }
         ensures failures { self.new.failures ≡ self.old.failures }
@@ -167,7 +168,7 @@ impl<N: Wire, C: Connections> ControlWire<N, C> {
         }
     }
 
-    /// Says a text to the application of a slot, where its connection is that of the place.
+    /// Says a text to the application of a slot, where its connection has that place.
     ///
     /// # Errors
     /// `WireFault`, where there is no room for it.
@@ -184,7 +185,7 @@ impl<N: Wire, C: Connections> ControlWire<N, C> {
         }
     }
 
-    /// Says a text to the connection of the operator that is that of the place.
+    /// Says a text to the connection of the operator that has that place.
     ///
     /// # Errors
     /// `WireFault`, where there is no room for it.
@@ -201,7 +202,8 @@ impl<N: Wire, C: Connections> ControlWire<N, C> {
         }
     }
 
-    /// Counts a text that was lost for want of room, and keeps it as the latest refusal.
+    /// Counts a text that was lost because there is no room for it, and keeps it as the latest
+    /// refusal.
     ///
     /// # Errors
     /// `WireFault`, where the count of failures rose.

@@ -1,6 +1,7 @@
 //! One call at a path of a wire, of which there may be none.
 
-ghost use Rattle.std.specs.Prelude.{◌≡◌, ◌<◌, ◌≤◌, length, IfOk, IfSome, OnErr, None};
+ghost use Rattle.std.specs.Prelude.{◌≡◌, ◌<◌, ◌≤◌, ◌-◌, ◌^◌, length, IfOk, IfSome, OnErr, None};
+ghost use Rattle.std.specs.Prelude.{is_err, nat_lt};
 ghost use Rattle.std.specs.Option.{option_map};
 ghost use Rattle.trdp_controls.specs.ControlWires.{SaysAtControl, SaysAtOperator, SaysAtPath};
 ghost use Rattle.trdp_controls.specs.ControlWires.{control_at, has_ended_at};
@@ -11,12 +12,13 @@ use trdp_base::Place;
 use trdp_daemon::{WireFault, fail};
 use trdp_lines::{AcceptFault, Connections, ControlPath, LostText, OperatorPath};
 
-/// What a take finds that failed: nothing, and that is counted.
+/// What a take that failed finds: nothing, and the failure is counted.
 ///
 /// # Errors
 /// `WireFault`, where the count of failures rose.
 pub(crate) fn nothing(failures: &mut u64) -> Result<Option<(Place, usize)>, WireFault>
     ensures found { IfOk result (λ found. found ≡ None) }
+    ensures fails { is_err result ≡ nat_lt failures.old (2 ^ 64 - 1) }
     ensures fault { OnErr result (failures.old < failures.new) }
 {
     match fail(failures) {
@@ -25,7 +27,7 @@ pub(crate) fn nothing(failures: &mut u64) -> Result<Option<(Place, usize)>, Wire
     }
 }
 
-/// What a take at a path answers to what the path does.
+/// The answer of a take at a path to what the path does.
 ///
 /// # Errors
 /// `WireFault`, where nothing is there and the system refuses the next connection.
@@ -44,7 +46,7 @@ fn answer_of(
 }
 
 /// Takes the next line at a path, or the end of its application; nothing ever comes where there is
-/// none. Tells too whether something was heard there.
+/// no path. Returns too whether something was heard there.
 pub(crate) fn take_line<C: Connections>(
     control: &mut Option<ControlPath<C>>,
     room: &mut [u8],
@@ -63,7 +65,7 @@ pub(crate) fn take_line<C: Connections>(
     (answer_of(taken, failures), heard)
 }
 
-/// Takes the next line at the operator's path; nothing ever comes where there is none. Tells too
+/// Takes the next line at the operator's path; nothing ever comes where there is none. Returns too
 /// whether something was heard there.
 pub(crate) fn take_operators_line<C: Connections>(
     operator: &mut Option<OperatorPath<C>>,
@@ -84,7 +86,7 @@ pub(crate) fn take_operators_line<C: Connections>(
 }
 
 /// Whether the application of a slot that was at a place has ended: its connection speaks no more.
-/// It hasn't where there is no path.
+/// False where there is no path.
 pub(crate) fn has_ended_at<C: Connections>(
     controls: &[Option<ControlPath<C>>],
     slot: usize,
