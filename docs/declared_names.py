@@ -103,10 +103,12 @@ def read_source(declared: Declared, crate: str, module: str, text: str) -> None:
 
 
 def read_definitions(declared: Declared, module: str, text: str) -> None:
-    """Notes what a file of definitions or lemmas declares."""
+    """Notes what a file of definitions or lemmas declares, with the rules that its remarks name."""
     owner = module
     for line in text.splitlines():
-        if found := re.match(r"(?:(?:pub|abbrev|unfoldable|record|data|syntax) )*([\w-]+)", line):
+        if line.startswith("-- rule:"):
+            declared.names.update(line.split()[2:])
+        elif found := re.match(r"(?:(?:pub|abbrev|unfoldable|record|data|syntax) )*([\w-]+)", line):
             if found[1] not in ("use", "unfolding", "module"):
                 declared.add(module, found[1])
                 owner = found[1]
