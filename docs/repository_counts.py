@@ -1,13 +1,15 @@
-"""What can be counted or compared in the repository, for docs/check_names: the numbers, the map and the configurations
-with all keys."""
+"""What can be counted or compared in the repository, for docs/check_names: the numbers, the map's crates, modules and
+trees of calls, and the configurations with all keys."""
 from __future__ import annotations
 
 import ast
+import functools
+import itertools
 import re
 from collections.abc import Iterator
 from typing import NamedTuple
 
-from declared_names import TOP, crate_lines, tracked
+from declared_names import TOP, VISIBLE, crate_lines, opened, tracked
 
 
 class Look(NamedTuple):
@@ -19,20 +21,20 @@ class Look(NamedTuple):
     why: str
 
 
-class Group(NamedTuple):
-    """Crates of a picture that dots join: their row, the columns from the first to behind the last, and their names."""
+class Function(NamedTuple):
+    """A function of a source file: the type or trait that it is of, if it is of one, its name and its body."""
 
-    row: int
-    start: int
-    end: int
-    crates: list[str]
+    owner: str
+    name: str
+    body: str
 
 
 MAP = "docs/ARCHITECTURE.md"
-# Where a stroke of a picture goes on: so many rows down, and columns to the right. One to the side goes on to the
-# right.
-STEPS = {"|": (1, 0), "/": (1, -1), "\\": (1, 1)}
-TREE_OF = "## The path of a datagram"
+# How a block of code begins that is a tree of calls, and the heading of a crate's modules.
+TREE, INSIDE = "```tree", "### `trdp"
+# A line of a tree: the crate, where it is another one than before; the function, maybe with its type; a mark where it
+# does not always run; and its file.
+TREE_LINE = re.compile(r"(trdp\w+)? *(?:([A-Z]\w*)::)?(\w+)(?: \?)? {2,}([\w/]+)(?: {2,}\S.*)?")
 ALL_KEYS = "A key that isn't named here is ignored"
 BUILD = re.compile(r"(\d+ to \d+) minutes on\s+four processors")
 # How a text tells a number, and what it is the number of.
@@ -93,91 +95,84 @@ def number_looks(path: str, text: str, real: dict[str, int]) -> Iterator[Look]:
         yield Look(path, line_of(text, found.start()), " ".join(found[0].split()), why)
 
 
-def block(lines: list[str], after: str) -> list[tuple[int, str]]:
-    """The first block of code behind a line, each line with its number."""
-    start = lines.index(after)
-    numbered: list[tuple[int, str]] = []
-    for number, line in enumerate(lines[start:], start + 1):
-        if line.startswith("    "):
-            numbered.append((number, line))
-        elif numbered:
-            break
-    return numbered
+def trees(lines: list[str]) -> Iterator[list[tuple[int, str]]]:
+    """The trees of calls of a page, each line with its number."""
+    for at, line in enumerate(lines):
+        if line == TREE:
+            end = [*lines, "```"].index("```", at)
+            yield [(number, lines[number - 1]) for number in range(at + 2, end + 1)]
 
 
-def groups_of(lines: list[str]) -> list[Group]:
-    """The crates of a picture, those of a line together that dots join."""
-    return [Group(row, found.start(), found.end(), found[0].split(" · "))
-            for row, line in enumerate(lines) for found in re.finditer(r"\btrdp\w*(?: · trdp\w*)*", line)]
-
-
-def reached(lines: list[str], groups: list[Group], row: int, column: int) -> Group | None:
-    """Where the stroke at a place of a picture leads down to."""
-    while row < len(lines) and 0 <= column < len(lines[row]):
-        for group in groups:
-            if group.row == row and group.start <= column < group.end:
-                return group
-        down, right = STEPS.get(lines[row][column], (0, 1))
-        row, column = row + down, column + right
-    return None
-
-
-def drawn(lines: list[str], groups: list[Group]) -> Iterator[tuple[Group, Group]]:
-    """The strokes of a picture: the upper group and the lower one."""
-    for group in groups:
-        below = lines[group.row + 1] if group.row + 1 < len(lines) else ""
-        for column in range(group.start - 1, min(group.end + 1, len(below))):
-            right = {"|": 0, "/": -1, "\\": 1}.get(below[column])
-            if right is not None and group.start <= column - right < group.end:
-                lower = reached(lines, groups, group.row + 1, column)
-                if lower:
-                    yield group, lower
-
-
-def picture_looks(lines: list[str]) -> Iterator[Look]:
-    """The crates of the map's picture: whom one stands on is below it, or behind it in its group; who is joined stands
-    on the other."""
-    numbered = block(lines, lines[0])
-    picture, first = [line for _, line in numbered], numbered[0][0]
-    groups, stands = groups_of(picture), crate_lines()
-    places = {crate: (group.row, group.start, at) for group in groups for at, crate in enumerate(group.crates)}
-    for crate, place in places.items():
-        for below in [below for below in stands.get(crate, []) if below in places]:
-            other = places[below]
-            is_lower = other[0] > place[0] or (other[:2] == place[:2] and other[2] > place[2])
-            yield Look(MAP, first + place[0], crate, "" if is_lower else f"it stands on {below}, which isn't below it")
-    for upper, lower in drawn(picture, groups):
-        is_true = any(below in stands.get(crate, []) for crate in upper.crates for below in lower.crates)
-        why = "" if is_true else f"it is joined with {lower.crates[0]}, and doesn't stand on it"
-        yield Look(MAP, first + upper.row, upper.crates[0], why)
-
-
-def bodies(crate: str, file: str, name: str) -> str:
-    """The text of the functions of that name in a source file."""
+@functools.cache
+def functions(crate: str, file: str) -> list[Function]:
+    """The functions of a source file. A body is without remarks, and without the contract before it."""
     path = TOP / "crates" / crate / "src" / f"{file}.rt"
-    text = path.read_text() if path.exists() else ""
-    functions = re.finditer(rf"^( *)[^/\n]*\bfn {name}\b.*?\n\1}}", text, re.MULTILINE | re.DOTALL)
-    return "\n".join(found[0] for found in functions)
+    lines = [line.split("//")[0].rstrip() for line in path.read_text().splitlines()] if path.exists() else []
+    found: list[Function] = []
+    owner = ""
+    for at, line in enumerate(lines):
+        if (new := opened(line))[0]:
+            owner = new[1]
+        elif line == "}":
+            owner = ""
+        elif head := re.match(rf"( *){VISIBLE}fn (\w+)", line):
+            own = list(itertools.takewhile(f"{head[1]}}}".__ne__, lines[at + 1:]))
+            begin = own.index(f"{head[1]}{{") if f"{head[1]}{{" in own else 0
+            found.append(Function(owner if head[1] else "", head[2], "\n".join(own[begin:])))
+    return found
 
 
-def tree_looks(lines: list[str]) -> Iterator[Look]:
-    """The functions of the map's tree: each is in its file, and is called by the one that it stands under."""
-    above: list[tuple[int, str, str]] = []
+def call_fault(above: Function, owner: str, name: str) -> str:
+    """Why a function isn't called by the one above it, if that is known."""
+    call = rf"(?:\.|\b(?:{owner}|Self)::){name}\(" if owner else rf"\b{name}\("
+    return f"{above.name} doesn't call it" if above.body and not re.search(call, above.body) else ""
+
+
+def tree_looks(tree: list[tuple[int, str]]) -> Iterator[Look]:
+    """The functions of a tree: each is in its file, and is called by the one above, from which it stands two columns to
+    the right."""
+    above: list[tuple[int, Function]] = []
     crate = ""
-    for number, line in block(lines, TREE_OF):
-        found = re.fullmatch(r"    (trdp\w+)? +([\w:]+)(?: \?)? {2,}([\w/]+)", line)
-        if not found:
+    for number, line in tree:
+        found = TREE_LINE.fullmatch(line)
+        column = found.start(2 if found[2] else 3) if found else 0
+        above = [it for it in above if it[0] < column]
+        if not found or (above and column != above[-1][0] + 2):
             yield Look(MAP, number, line.strip(), "no line of a tree")
             continue
-        crate = found[1] or crate
-        name, column = found[2].split("::")[-1], found.start(2)
-        above = [it for it in above if it[0] < column]
-        body = bodies(crate, found[3], name)
-        why = "" if body else f"no function of {crate}/src/{found[3]}.rt"
-        if body and above and not re.search(rf"\b{name}\(", above[-1][2]):
-            why = f"{above[-1][1]} doesn't call it"
-        yield Look(MAP, number, found[2], why)
-        above.append((column, found[2], body))
+        crate, owner, name = found[1] or crate, found[2] or "", found[3]
+        own = [it for it in functions(crate, found[4]) if it.name == name and owner in ("", it.owner)]
+        if len(own) != 1:
+            why = f"{len(own)} functions of that name in {crate}/src/{found[4]}.rt"
+        else:
+            why = call_fault(above[-1][1], owner, name) if above else ""
+        yield Look(MAP, number, f"{owner}::{name}" if owner else name, why)
+        above.append((column, own[0] if len(own) == 1 else Function(owner, name, "")))
+
+
+def insides(lines: list[str]) -> dict[str, tuple[int, str]]:
+    """The sections of the map that have a crate's modules: by crate, the number of the first line, and the text."""
+    headings = [at for at, line in enumerate(lines) if re.match("#+ ", line)]
+    return {
+        lines[at].split("`")[1]: (at + 1, "\n".join(lines[at:end]))
+        for at, end in zip(headings, [*headings[1:], len(lines)]) if lines[at].startswith(INSIDE)
+    }
+
+
+def module_looks(lines: list[str]) -> Iterator[Look]:
+    """The crates of the map: each has a row in a table, and a section that names its modules."""
+    inside = insides(lines)
+    for crate in crate_lines():
+        has_row = any(line.startswith(f"| `{crate}` |") for line in lines)
+        yield Look(MAP, 1, crate, "" if has_row else "it has no row in a table")
+        first, text = inside.get(crate, (1, ""))
+        source = TOP / "crates" / crate / "src"
+        for path in sorted(source.rglob("*.rt")):
+            module = str(path.relative_to(source).with_suffix(""))
+            if module not in ("lib", "main"):
+                yield Look(MAP, first, module, "" if f"`{module}`" in text else f"not named in the section of {crate}")
+    for crate in inside.keys() - crate_lines().keys():
+        yield Look(MAP, inside[crate][0], crate, "no crate of crates.txt")
 
 
 def key_looks() -> Iterator[Look]:
@@ -195,7 +190,8 @@ def key_looks() -> Iterator[Look]:
 def all_looks() -> Iterator[Look]:
     """The map, the configurations, and what the program's own starter says."""
     lines = (TOP / MAP).read_text().splitlines()
-    yield from picture_looks(lines)
-    yield from tree_looks(lines)
+    yield Look(MAP, 1, TREE, "" if TREE in lines else "it has no tree of calls")
+    yield from (look for tree in trees(lines) for look in tree_looks(tree))
+    yield from module_looks(lines)
     yield from key_looks()
     yield from number_looks("run", (TOP / "run").read_text(), counted())
