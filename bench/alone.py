@@ -8,13 +8,13 @@
 `bench/alone/` is a second implementation of the rules in docs/PROFILE.md, docs/MODEL.md and docs/SCRIPT.md: one slot by
 itself, which has a list of its objects and looks at each of them at every event. Nothing of it is taken from the
 crates, and no slot knows of another. Events by chance, some 5000 for each of several nodes, are played by the program
-and by each slot by itself: each event has to give the lines that the slots give, slots rising. A run tells how often
+and by each slot by itself: each event has to give the lines that the slots give, slots rising. A run says how often
 each kind of line came, and fails where one never came that chance can reach. SEED `clock` takes the seed from the
 clock; it is printed.
 
-With `rows` the slots by themselves play all scripts that stand in the repository with their output: those of rows/
-whose configuration is taken, and the examples. With `limits` both play a node at every limit, and a publisher's first
-ten thousand telegrams. The exit status is 0 where all is alike.
+With `rows` the slots by themselves play all scripts that are in the repository with their output: those of rows/
+whose configuration is accepted, and the examples. With `limits` both play a node at every limit, and a publisher's
+first ten thousand telegrams. The exit status is 0 where all is alike.
 """
 from __future__ import annotations
 
@@ -36,7 +36,7 @@ from alone.settings import Settings
 
 TOP = os.path.dirname(os.path.dirname(os.path.abspath(__file__)))
 EVENTS_OF_A_NODE = 5000
-# Stands behind each event, and gives the line behind it, so that each event's own lines show.
+# Comes after each event, and gives the line after it, so that each event's own lines show.
 MARK, MARKED = "role 0 leader", "fault NoGroup"
 
 
@@ -108,7 +108,7 @@ def shown(who: str, lines: list[str]) -> list[str]:
 
 
 def by_chance(events: int, seed: str, program: str) -> None:
-    """Plays so many events, and tells what they came to."""
+    """Plays that many events, and prints what they gave."""
     seen: Counter[str] = Counter()
     given, slots, begun = 0, 0, time.monotonic()
     for first in range(0, events, EVENTS_OF_A_NODE):

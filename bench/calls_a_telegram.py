@@ -10,10 +10,10 @@ each node, the two in turns, the median over the rounds of
 
     calls         how many calls of the system it makes for a telegram, at 2,000 a second, as perf counts them
     at 2,000      microseconds of processor time for a telegram (user and system) at 2,000 a second, and
-    at 50,000     at 50,000 a second, or as many as this script manages, which is told
+    at 50,000     at 50,000 a second, or as many as this script manages, which it prints
 
-A telegram that the system dropped doesn't count. Which calls these are strace tells, at 200 a second; where perf
-doesn't work, its calls count. Behind that stands what the program after the change is to reach: at most 3.2 calls at
+A telegram that the system dropped doesn't count. Which calls these are strace says, at 200 a second; where perf
+doesn't work, its calls count. After that comes what the program after the change is to reach: at most 3.2 calls at
 each node, and with 16 slots at most 1.1 times the processor time with one. All is at 127.0.0.1; root may always count.
 """
 from __future__ import annotations
@@ -54,7 +54,7 @@ class Cost(NamedTuple):
 
 
 class Flow:
-    """Telegrams that come to a daemon of so many slots. Its first slot takes them, and has a publisher that isn't due
+    """Telegrams that come to a daemon of that many slots. Its first slot takes them, and has a publisher that isn't due
     soon."""
 
     def __init__(self, program: str, slots: int) -> None:
@@ -131,7 +131,7 @@ class Flow:
 
 
 def cost(program: str, slots: int, seconds: float, says: str) -> Cost:
-    """What a telegram costs. Prints which calls it has behind those words, where there are any."""
+    """What a telegram costs. Prints which calls it has after those words, where there are any."""
     flow = Flow(program, slots)
     try:
         flow.send(RATE, 0.2)

@@ -6,18 +6,20 @@ It was proved with the logic of the toolchain that is here, as `rt version` prin
     bench/command_words.py [PROGRAM]              default: crates/trdpd/out/trdpd (./run prove builds it)
 
 Prints a line for each case whose words or status differ, and then how many there were. The status is 0 where none
-differs. As root it leaves out the file that nobody may read, since root may.
+differs. As root it leaves out the file that no one may read, since root may.
 """
 from __future__ import annotations
 
 import os
 import pathlib
-import re
 import subprocess
 import sys
 import tempfile
 
 TOP = os.path.dirname(os.path.dirname(os.path.abspath(__file__)))
+sys.path.insert(0, f"{TOP}/package")
+from version import program_version  # noqa: E402
+
 HELP = """\
 A communication node for the Train Real-time Data Protocol (TRDP, IEC 61375-2-3)
 
@@ -41,18 +43,15 @@ Example, with a configuration of this project:
 The manual page: man trdpd, or man docs/trdpd.1 in the project's folder
 """
 UNREADABLE = "config fault Unreadable\n"
-# The ways to be told why a file can't be read, and those that stay at one line.
+# The ways to learn why a file can't be read, and those that stay at one line.
 TELLING = (["check"], ["daemon"])
 SHORT = (["run"], ["serve", "--turns", "0"])
 
 
 def version() -> str:
-    """The line that tells the version, as the program's source and the toolchain have it."""
-    source = pathlib.Path(TOP, "crates/trdpd/src/version.rt").read_text()
-    number = re.search(r'VERSION: &str = "(.*)";', source)
+    """The line of the version, from the program's source and from the toolchain."""
     kit = subprocess.run([os.environ.get("RT") or "rt", "version"], capture_output=True, text=True, check=True).stdout
-    assert number, "no version in crates/trdpd/src/version.rt"
-    return f"trdpd {number[1]}, proved with logic {kit.split()[-1]}\n"
+    return f"trdpd {program_version()}, proved with logic {kit.split()[-1]}\n"
 
 
 def cases(folder: pathlib.Path) -> list[tuple[list[str], int, str, str]]:

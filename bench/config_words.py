@@ -3,7 +3,7 @@
 
     bench/config_words.py [PROGRAM]               default: crates/trdpd/out/trdpd (./run prove builds it)
 
-Those that have faults stand in bench/bad_configs.txt, but for some long ones. Prints a line for each configuration
+Those that have faults are in bench/bad_configs.txt, but for some long ones. Prints a line for each configuration
 whose words or status differ, and then how many there were. The status is 0 where none differs.
 """
 from __future__ import annotations
@@ -19,7 +19,7 @@ TOP = os.path.dirname(os.path.dirname(os.path.abspath(__file__)))
 NODE = '[node]\naddress = "10.0.0.1"\n'
 ONE = "[[slot]]\ncallers = 1\n"
 GOOD = NODE + ONE
-# A status, what was written, and what stands on the error stream.
+# A status, what was written, and what is on the error stream.
 Said = tuple[int, str, str]
 
 
@@ -29,13 +29,13 @@ def dataset(number: int, *elements: int | str) -> str:
 
 
 def chain(depth: int) -> str:
-    """Datasets from 1000 on, of which each but the last stands in the one before it."""
+    """Datasets from 1000 on, of which each but the last is an element of the one before it."""
     return "".join(dataset(1000 + it, 1001 + it) for it in range(depth - 1)) + dataset(999 + depth, 8)
 
 
 def limits(slots: int, datasets: int, elements: int, depth: int, size: int) -> str:
-    """A file of so many slots with the largest numbers, so many datasets, elements of one, datasets in one another and
-    bytes of one."""
+    """A file of that many slots with the largest numbers, that many datasets, elements of one, datasets in one another
+    and bytes of one."""
     ports = ", ".join(["65535"] * 15)
     text = "[node]\naddress = '255.255.255.255'\npd_port = 65535\nmd_port = 65535\noperator_port = 65535\n"
     text += f"spare_control_ports = [{ports}]\n"
@@ -52,7 +52,7 @@ DEEP = "datasets nest deeper than 5 in it, or in a circle"
 GROUPS = [f"239.192.0.{it}" for it in range(33)]
 JOINED = ["224.0.0.0", "239.255.255.255", *GROUPS[:30]]
 JOINS = "".join(f"group {it}: a link joins it by `ip address add {it}/32 dev LINK autojoin`\n" for it in JOINED)
-# Long configurations that aren't taken: what is said of each.
+# Long configurations that are rejected: what is said of each.
 FAULTS: list[tuple[str, ...]] = [
     (NODE + ONE * 17, "TooMany", "line 35, the file's root: slot has 17 members: 16 are the most"),
     (NODE + f"groups = {GROUPS}\n" + ONE, "TooMany", "line 3, node: groups has 33 members: 32 are the most"),
@@ -76,7 +76,7 @@ FAULTS: list[tuple[str, ...]] = [
        for it in range(2048))),
 ]
 
-# What stands for what in bench/bad_configs.txt.
+# The short forms in bench/bad_configs.txt, and what they mean.
 NAMES = {
     "$NODE": 'node = { address = "10.0.0.1" }',
     "$SLOT": "slot = [{ callers = 1 }]",
@@ -193,7 +193,7 @@ WORDS = [
 
 
 def bad_configs() -> Iterator[tuple[bytes, str]]:
-    """The configurations of bench/bad_configs.txt, and what is told of each."""
+    """The configurations of bench/bad_configs.txt, and what is said of each."""
     with open(f"{TOP}/bench/bad_configs.txt", encoding="utf-8") as file:
         _, *cases = file.read().split("\n= ")
     for case in cases:
@@ -206,7 +206,7 @@ def bad_configs() -> Iterator[tuple[bytes, str]]:
 
 
 def said(program: str, config: str | bytes) -> Said:
-    """The status, what was written, and what stands on the error stream."""
+    """The status, what was written, and what is on the error stream."""
     with tempfile.NamedTemporaryFile("wb", suffix=".toml") as file:
         file.write(config if isinstance(config, bytes) else config.encode())
         file.flush()

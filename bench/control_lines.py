@@ -1,16 +1,16 @@
 #!/usr/bin/env python3
-"""What a line costs at a control socket, beside one at a UDP control port, and what an application that doesn't read is
-told.
+"""What a line costs at a control socket, beside one at a UDP control port, and what an application that doesn't read
+receives.
 
     bench/control_lines.py [LINES] [NOTIFICATIONS] [PROGRAM]
                           default: 100000 100000 crates/trdpd/out/trdpd (./run prove builds it)
 
-Two daemons at 127.0.0.1, one with control sockets and one with UDP control ports, are sent so many lines `get 1` in
-turns, five times each, of which 1 or 64 are unanswered at a time. Tells the median of the lines a second, as the client
-sees them, and of the microseconds of processor time that the daemon takes for a line (user and system).
+Two daemons at 127.0.0.1, one with control sockets and one with UDP control ports, are sent LINES lines `get 1` in
+turns, five times each, of which 1 or 64 are unanswered at a time. Prints the median of the lines a second, as the
+client sees them, and of the microseconds of processor time that the daemon takes for a line (user and system).
 
-Then so many notifications of 1,000 bytes come to a slot whose application doesn't read, while its publisher sends every
-10 ms. A line tells how many the application was told of when it read at last, how many were lost, and how many
+Then NOTIFICATIONS notifications of 1,000 bytes come to a slot whose application doesn't read, while its publisher sends
+every 10 ms. A line says how many the application received when it read at last, how many were lost, and how many
 telegrams of its publisher came. The exit status is 0 where every notification is in its order or counted in its place
 and no telegram is missing, and else 1.
 """
@@ -41,7 +41,7 @@ CREDIT = 50                                       # notifications that fit into 
 
 
 def free_ports(count: int) -> list[int]:
-    """Numbers of so many UDP ports that nobody has at the moment."""
+    """Numbers of that many UDP ports that no one has at the moment."""
     held = [socket.socket(socket.AF_INET, socket.SOCK_DGRAM) for _ in range(count)]
     for taken in held:
         taken.bind((HOST, 0))
@@ -95,7 +95,7 @@ class Node:
 
 
 def exchange(client: socket.socket, count: int, window: int) -> None:
-    """Has so many lines answered, of which at most so many are unanswered at a time. Over a stream an answer may come
+    """Has `count` lines answered, of which at most `window` are unanswered at a time. Over a stream an answer may come
     in two parts."""
     size = len(ANSWER)
     for _ in range(window):
@@ -150,7 +150,7 @@ def texts(client: socket.socket) -> Iterator[bytes]:
 
 
 def are_told(client: socket.socket, source: str, count: int) -> tuple[int, int]:
-    """How many notifications the application is told of, and how many were lost; ends the program where one is out of
+    """How many notifications the application receives, and how many were lost; ends the program where one is out of
     its place."""
     came = lost = 0
     for text in texts(client):
@@ -166,7 +166,7 @@ def are_told(client: socket.socket, source: str, count: int) -> tuple[int, int]:
 
 
 def losses(node: Node, count: int) -> int:
-    """Has so many notifications come to an application that doesn't read; answers the exit status."""
+    """Has that many notifications come to an application that doesn't read; answers the exit status."""
     application, fence = node.client(0), node.client(1)
     udp = (socket.AF_INET, socket.SOCK_DGRAM)
     with socket.socket(*udp) as sink, socket.socket(*udp) as device:
@@ -181,7 +181,7 @@ def losses(node: Node, count: int) -> int:
         for number in range(count):
             device.send(notification(300, number.to_bytes(4, "big") + bytes(PAYLOAD - 4)))
             if number % CREDIT == CREDIT - 1:
-                # What comes behind them is heard by the slot beside, so that they were taken.
+                # What comes after them is heard by the slot beside, so that they were taken.
                 device.send(notification(301, b""))
                 fence.recv(4096)
                 with contextlib.suppress(BlockingIOError):

@@ -4,17 +4,17 @@
     bench/idle_cost.py [SECONDS] [BEFORE] [AFTER] [ROUNDS]        default: 10 crates/trdpd/out/trdpd, both times, 5
 
 bench/bare_rest.rs, which rustc builds, is that loop: it sleeps until the next telegram is due, at the moments at which
-the program after the change sent, at most a millisecond at a time, or in one piece; behind each sleep it answers what
-came. It, the program before a change and the one after it send the telegrams of so many publishers, whose phases are
+the program after the change sent, at most a millisecond at a time, or in one piece; after each sleep it answers what
+came. It, the program before a change and the one after it send the telegrams of the same publishers, whose phases are
 spread over the cycle, to a socket on this machine, in turns. For each the median over the rounds of
 
     processor     the share of a processor that it takes meanwhile (user and system), by the clock of its processor time
     perf          the same by `perf stat`, where that works, over a second beside
     late          how much later than the earliest of its publisher a telegram came, by the system's stamp, median and
                   99 %
-    answer        how long a call waits for its answer, behind a pause of 5 to 50 ms, median and 99 %
+    answer        how long a call waits for its answer, after a pause of 5 to 50 ms, median and 99 %
 
-Behind each row of these stands what the program after the change is to reach: at most 1.3 times the processor time of
+After each row of these comes what the program after the change is to reach: at most 1.3 times the processor time of
 the loop, and telegrams and answers at most 50 microseconds later. All is at 127.0.0.1.
 """
 from __future__ import annotations
@@ -38,11 +38,11 @@ PAYLOAD = 8                                       # bytes
 TELEGRAM = 40 + PAYLOAD                           # bytes
 NUMBER = slice(8, 12)                             # of a telegram: its comId, which is the publisher's number
 ANSWER = len("0 refused WrongKind\n")
-TIMES, LATER = 1.3, 50.0                          # the goals: as much processor time, so many microseconds later
+TIMES, LATER = 1.3, 50.0                          # the goals: the ratio of processor times, and microseconds later
 
 
 class Row(NamedTuple):
-    """So many publishers of a cycle, in seconds."""
+    """A number of publishers of a cycle, in seconds."""
 
     publishers: int
     cycle: float
@@ -68,7 +68,7 @@ class Cost(NamedTuple):
 
 
 def started_node(program: str, row: Row, sink: int) -> Started:
-    """A daemon with these publishers, the first put of each a part of the cycle behind that of the one before."""
+    """A daemon with these publishers, the first put of each a part of the cycle after that of the one before."""
     node = Node(program, ["daemon"], 1, f"publishers = {row.publishers}\n")
     for number in range(row.publishers):
         node.call(f"publish {number} 0 {row.cycle * 1e6:.0f} 0 0 0 {HOST}:{sink}")
@@ -140,7 +140,7 @@ def tell_goals(after: Cost, bare: Cost, beside: str) -> None:
 
 
 def measure(starts: dict[str, Start], row: Row, seconds: float, rounds: int) -> None:
-    """Measures a row, the programs in turns, and tells of it."""
+    """Measures a row, the programs in turns, and prints it."""
     found: dict[str, list[Cost]] = {name: [] for name in starts}
     phases: list[float] = []
     for _ in range(rounds):

@@ -3,7 +3,7 @@
 
     bench/instructions.py [PROGRAM]               default: crates/trdpd/out/trdpd (./run prove builds it)
 
-A script of so many equal lines is played, and one of twice as many: the cost of a line is the difference. Reading and
+A script of equal lines is played, and one of twice as many: the cost of a line is the difference. Reading and
 printing are in it. Five kinds of lines: a call that puts two bytes, a telegram of process data that one of 4,096
 subscriptions takes, a moment by which 256 publishers are due (counted for each telegram that it sends), a moment by
 which nothing is due, and a request that one of 4,096 listeners hears with the call that replies to it.
@@ -36,7 +36,7 @@ def listeners(objects: int, slots: int) -> Iterator[str]:
 
 
 def answered(count: int) -> Iterator[str]:
-    """So many requests, each with its reply: the repliers' handles come after those of the listeners."""
+    """That many requests, each with its reply: the repliers' handles come after those of the listeners."""
     for i in range(count):
         asked = write_md(Message("Mr", TAKEN, bytes(8), session=i + 1, time=1_000_000)).hex()
         yield f"md 10.0.0.2:17225 10.0.0.1:17225 {asked}\ncall 0 reply {OBJECTS + 1 + i} 301 0 0c"

@@ -18,7 +18,7 @@ from typing import IO
 TOP = os.path.dirname(os.path.dirname(os.path.abspath(__file__)))
 # How many seconds an answer is waited for: it takes less than a millisecond on a machine that does nothing else.
 PATIENCE = 10.0
-# How long nothing has to come behind a piece of a line.
+# How long nothing has to come after a piece of a line.
 QUIET = 0.1
 LINES: list[tuple[str, list[str]]] = [
     ("call 0 publish 100 0 100000 0 0 0 10.0.0.2:17224", ["0 handle 1"]), ("call 0 put 1 0a0b", ["0 done"]),
@@ -40,7 +40,7 @@ def read_some(output: IO[bytes], seconds: float) -> bytes:
 
 
 def read_lines(output: IO[bytes], count: int) -> list[str]:
-    """So many lines, or fewer where no more come."""
+    """That many lines, or fewer where no more come."""
     said = b""
     while said.count(b"\n") < count and (some := read_some(output, PATIENCE)):
         said += some

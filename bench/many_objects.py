@@ -3,7 +3,7 @@
 
     bench/many_objects.py [LINES] [PROGRAM]       default: 400000 lines, crates/trdpd/out/trdpd (./run builds it)
 
-Each row plays a script of that many equal lines from a file to a file, with so many objects open, and again without
+Each row plays a script of LINES equal lines from a file to a file, with its number of objects open, and again without
 them: the cost of a line is that of the longer script less that of its first half, the least of five runs. Reading and
 printing a line is in it. Objects of one kind have comIds of their own; one of them is concerned. The telegrams' frame
 checks are zlib's.
@@ -27,7 +27,7 @@ LATE = 2**32 - 1                                                      # the long
 
 
 def config(slots: int) -> str:
-    """A configuration of so many slots, each with all the objects of each kind that there may be."""
+    """A configuration of that many slots, each with all the objects of each kind that there may be."""
     kinds = ("publishers", "subscriptions", "requesters", "listeners", "callers", "repliers")
     slot = "[[slot]]\n" + "".join(f"{kind} = 256\n" for kind in kinds)
     return '[node]\naddress = "10.0.0.1"\n' + slot * slots
@@ -77,25 +77,25 @@ def seconds(program: str, settings: str, lines: Iterable[str]) -> float:
 
 
 class Row:
-    """So many equal lines behind those that open the objects, with the acts of each line."""
+    """That many equal lines after those that open the objects, with the acts of each line."""
 
     def __init__(self, name: str, opening: Iterable[str], lines: Callable[[int], Iterable[str]], count: int,
                  acts: int = 1) -> None:
         self.name, self.opening, self.lines, self.count, self.acts = name, list(opening), lines, count, acts
 
     def cost(self, program: str, settings: str) -> float:
-        """Nanoseconds for each act of a line, of those behind the first half."""
+        """Nanoseconds for each act of a line, of those after the first half."""
         first = self.count // 2
         half, whole = (self.seconds(program, settings, it) for it in (first, self.count))
         return (whole - half) / (self.count - first) / self.acts * 1e9
 
     def seconds(self, program: str, settings: str, count: int) -> float:
-        """The least processor time of some runs over so many lines."""
+        """The least processor time of some runs over that many lines."""
         return min(seconds(program, settings, self.opening + list(self.lines(count))) for _ in range(RUNS))
 
 
 def rows(objects: int, slots: int, count: int) -> Iterator[Row]:
-    """The rows of so many objects in each of so many slots, of so many lines."""
+    """The rows of that many objects in each of that many slots, of that many lines."""
     all_of = objects * slots
     yield Row("taken", subscriptions(objects, slots), lambda n: telegrams(TAKEN, n), count)
     yield Row("nobody's", subscriptions(objects, slots), lambda n: telegrams(UNKNOWN, n), count)

@@ -5,15 +5,18 @@
 
 Copies of the project in two folders have to give the same bytes. The .deb and the .tar.gz have to have the same
 files. From where they are unpacked the program, the tools, the client in Python, the completion and the header are
-tried. What is no program, or has no version or no licence, has to be refused, and nothing written. Prints a line for
-each that isn't as it should be, one `skipped ..` for each tool that isn't there, and then how many were looked at. The
-status is 0 where all are as they should be.
+tried. The manual page of each tool must have the options of its help, and no others. What is no program, or has no
+version or no licence, must be refused, and nothing written. Prints a line for each that isn't as it should be, one
+`skipped ..` for each tool that isn't there, and then how many were looked at. The status is 0 where all are as they
+should be.
 """
 from __future__ import annotations
 
+import gzip
 import io
 import os
 import pathlib
+import re
 import shutil
 import subprocess
 import sys
@@ -22,8 +25,8 @@ import tempfile
 
 TOP = pathlib.Path(__file__).resolve().parent.parent
 # What the package is made of.
-PARTS = ("run", "README.md", "CHANGELOG.md", "LICENSE", "crates.txt", "crates/trdpd/src", "package", "docs", "examples",
-         "clients", "wireshark")
+PARTS = ("run", "README.md", "CHANGELOG.md", "CONTRIBUTING.md", "SECURITY.md", "LICENSE", "crates.txt",
+         "crates/trdpd/src", "package", "docs", "examples", "clients", "wireshark")
 MODULES = "usr/lib/python3/dist-packages"
 DOOR = "usr/share/doc/trdpd/examples/control/door.toml"
 C_PROGRAM = """\
@@ -140,12 +143,25 @@ def look_at_header(folder: pathlib.Path) -> None:
     look_at(["gcc", "-std=c99", "-Wall", "-Werror", "-fsyntax-only", *flags.stdout.split(), "program.c"], folder, "")
 
 
+def look_at_page(folder: pathlib.Path, tool: str) -> None:
+    """Compares the options of a tool's manual page with those of its help, where each has a line of its own."""
+    page = gzip.decompress((folder / f"usr/share/man/man1/{tool}.1.gz").read_bytes()).decode().replace("\\-", "-")
+    described = set(re.findall(r"^\.TP\n\.B.*?(--[a-z-]+)", page, re.MULTILINE))
+    named = set(re.findall(r"--[a-z-]+", page))
+    ran = run([sys.executable, f"usr/bin/{tool}", "--help"], folder, PYTHONPATH=f"{folder}/{MODULES}")
+    helped = set(re.findall(r"^  (?:-\w, )?(--[a-z-]+)", ran.stdout, re.MULTILINE))
+    Looks.look(described == named == helped,
+               f"{tool}: of its page {sorted(described)}, named there {sorted(named)}, of its help {sorted(helped)}")
+
+
 def look_into(folder: pathlib.Path) -> None:
     """Uses what is unpacked."""
     modules = f"{folder}/{MODULES}"
     look_at(["usr/bin/trdpd", "check", "etc/trdpd/node.toml"], folder, "node 127.0.0.1: process data at port 17224")
     for tool in ("trdp-dump", "trdp-send"):
         look_at([sys.executable, f"usr/bin/{tool}", "--help"], folder, "usage: trdp", PYTHONPATH=modules)
+    for tool in ("trdp-dump", "trdp-lua", "trdp-send"):
+        look_at_page(folder, tool)
     look_at([sys.executable, "-c", "import trdp_slot"], folder, "", PYTHONPATH=modules)
     look_at([sys.executable, "usr/bin/trdp-lua", DOOR], folder, "-- The datasets of comIds", PYTHONPATH=modules)
     if shutil.which("bash"):

@@ -70,7 +70,7 @@ EVERYWHERE = "warning: address is 0.0.0.0: its ports are at every interface, and
 
 
 def said(program: str, config: str) -> tuple[int, str, str]:
-    """The status, what was written, and what stands on the error stream."""
+    """The status, what was written, and what is on the error stream."""
     with tempfile.NamedTemporaryFile("w", suffix=".toml") as file:
         file.write(config)
         file.flush()
@@ -82,7 +82,7 @@ def said(program: str, config: str) -> tuple[int, str, str]:
 
 def differs(program: str, held: list[Place], other: dict[str, str | int], refused: list[Place],
             twice: list[tuple[Place, str]]) -> bool:
-    """Whether something else is said where others hold these ports; tells it."""
+    """Whether something else is said where others hold these ports; prints it."""
     keys = {**USUAL, **other}
     wanted = MEANT.format(**keys) + (EVERYWHERE if keys["home"] == "0.0.0.0" else "")
     wanted += "".join(f"warning: {both} both name port {port} at {ip}\n" for (ip, port), both in twice) + "bind fault\n"

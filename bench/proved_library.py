@@ -5,13 +5,13 @@ import os
 import shutil
 import subprocess
 import tempfile
-from collections.abc import Sequence
+from collections.abc import Callable, Sequence
 
 TOP = os.path.dirname(os.path.dirname(os.path.abspath(__file__)))
 
 
 def lines_of(names: list[str]) -> list[str]:
-    """The lines of crates.txt of these crates and of all that they stand on."""
+    """The lines of crates.txt of these crates and of all that they depend on."""
     needed = set(names)
     lines: list[str] = []
     with open(f"{TOP}/crates.txt") as crates:
@@ -29,8 +29,15 @@ def write(path: str, text: str) -> None:
         out.write(text)
 
 
-def run(program: str, names: list[str], sources: dict[str, str], links: Sequence[str] = ()) -> None:
-    """Runs bench/PROGRAM.rs with a library for C of these sources, by file name, which uses the named crates.
+def play(program: str) -> None:
+    """Runs a program."""
+    subprocess.run([program], check=True)
+
+
+def run(program: str, names: list[str], sources: dict[str, str], links: Sequence[str] = (),
+        use: Callable[[str], None] = play) -> None:
+    """Runs bench/PROGRAM.rs with a library for C of these sources, by file name, which uses the named crates; or has
+    it used in another way.
 
     The library is proved and built in a folder of its own; what is built of the crates is taken along. Both compilers
     build for x86-64-v2.
@@ -51,4 +58,4 @@ def run(program: str, names: list[str], sources: dict[str, str], links: Sequence
         links = [word for name in ["static=for_c", *links] for word in ("-l", name)]
         words = [f"{TOP}/bench/{program}.rs", "-o", f"{top}/{program}", "-L", f"native={library}/out", *links]
         subprocess.run([*rustc, *words], check=True)
-        subprocess.run([f"{top}/{program}"], check=True)
+        use(f"{top}/{program}")

@@ -35,7 +35,7 @@ class Wrong(Exception):
 
 
 def free_ports(count: int) -> list[int]:
-    """So many UDP ports that nobody has."""
+    """That many UDP ports that no one has."""
     sockets = [socket.socket(socket.AF_INET, socket.SOCK_DGRAM) for _ in range(count)]
     for it in sockets:
         it.bind((HOME, 0))
@@ -122,7 +122,7 @@ def seconds_a_turn(program: str, config: str) -> float:
 
 def play(peer: Peer, pid: int, datagrams: int, seconds: int,
          source: random.Random) -> tuple[tuple[int, int], tuple[int, int], float]:
-    """Sends so many datagrams within so many seconds; answers the memory before and after, and the seconds."""
+    """Sends that many datagrams within that many seconds; answers the memory before and after, and the seconds."""
     before, start = None, time.monotonic()
     peer.ask("control", f"publish 100 0 1000 0 0 0 {HOME}:{peer.sink.getsockname()[1]}", "0 handle 1\n")
     while peer.count < datagrams and time.monotonic() - start < seconds:

@@ -7,6 +7,7 @@ mod timing;
 
 use eight_tables::by_eight_tables;
 use plain_heads::{HeadFault, MdHead, MdKind, PdHead, PdKind, Topo, Uri, read_md, read_pd};
+use std::hint::black_box;
 use timing::best_times;
 
 unsafe extern "C" {
@@ -65,7 +66,23 @@ fn message_data(length: usize) -> Vec<u8> {
     with_check(bytes, 116)
 }
 
+/// Reads a telegram that many times: by the words proved or plain, 0 (process data) or 1 (message data), and how often.
+fn read_often(words: &[String]) {
+    let bodies: [fn(&[u8]) -> u64; 4] = [proved_pd, plain_pd, proved_md, plain_md];
+    let is_message = words[1] == "1";
+    let body = bodies[2 * usize::from(is_message) + usize::from(words[0] == "plain")];
+    let bytes = if is_message { message_data(120) } else { process_data(48) };
+    let turns = words[2].parse().unwrap();
+    for _ in 0..turns {
+        black_box(body(black_box(&bytes)));
+    }
+}
+
 fn main() {
+    let words: Vec<String> = std::env::args().skip(1).collect();
+    if !words.is_empty() {
+        return read_often(&words);
+    }
     let pd: [fn(&[u8]) -> u64; 2] = [proved_pd, plain_pd];
     let md: [fn(&[u8]) -> u64; 2] = [proved_md, plain_md];
     let cases = [

@@ -12,12 +12,12 @@ from typing import Any
 BENCH = os.path.dirname(os.path.abspath(__file__))
 # The kind of a call that is refused, and which one of that kind it is.
 Refused = tuple[str, int]
-# What refused_calls.c is told beside the call that is refused.
+# What refused_calls.c receives beside the call that is refused.
 SETTINGS = ("read_piece", "write_piece", "write_every", "refused_error")
 
 
 class Library:
-    """What stands between a program and its system; made by built()."""
+    """What is between a program and its system; made by built()."""
 
     def __init__(self, path: str) -> None:
         self.path = path

@@ -4,7 +4,7 @@
    "config" (a read of a file), "read" (one at standard input), "write" (one at standard output), "accept" (of a connection), "receive"
    (a read at one that was accepted) or "send" (a write there). Without REFUSED the calls go on, and how many there were of each kind is
    told at the end. REFUSED_ERROR is the number of the error of the last three kinds, of which it is told when one was refused.
-   READ_PIECE and WRITE_PIECE are how many bytes a read at standard input and a write at standard output pass on at most. Of so many
+   READ_PIECE and WRITE_PIECE are how many bytes a read at standard input and a write at standard output pass on at most. Of that many
    writes as WRITE_EVERY says the last one alone passes on; the others are interrupted. */
 #define _GNU_SOURCE
 #include <dlfcn.h>

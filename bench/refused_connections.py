@@ -5,7 +5,7 @@ them.
     bench/refused_connections.py [PROGRAM]        default: crates/trdpd/out/trdpd (./run prove builds it)
 
 A call accepts a connection, reads from one or writes to one, and is refused by EINTR, ENOMEM, EMFILE or ECONNRESET. One
-application at the most may notice: its connection ends behind the answers to some of its first calls. All calls of the
+application at the most may notice: its connection ends after the answers to some of its first calls. All calls of the
 other one are answered, each once and in order; and so are both when they come again.
 
 A line has the call and the error, how many runs there were, and in how many of them a connection ended. The exit status
@@ -69,7 +69,7 @@ class Application:
             self.is_over = True
 
     def hear(self, answers: int) -> None:
-        """Hears so many answers in all, or the end of the connection."""
+        """Hears that many answers in all, or the end of the connection."""
         while not self.is_over and self.came.count(b"\n") < answers:
             try:
                 more = self.socket.recv(4096)

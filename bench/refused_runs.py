@@ -4,8 +4,8 @@
     bench/refused_runs.py [PROGRAM]             default: crates/trdpd/out/trdpd (./run prove builds it)
 
 A call is a request for memory, a read of the configuration's file, a read of the script, or a write of the output;
-reads and writes pass on a byte at a time, some bytes, so that they end within lines, or all. What a run may come to
-stands in docs/SCRIPT.md:
+reads and writes pass on a byte at a time, some bytes, so that they end within lines, or all. How a run may end
+is in docs/SCRIPT.md:
 
     memory    status 4 with `memory fault`, and the text of some first lines of the script, or status 1 with `config
               fault OutOfMemory` and no text; or all is as without refusal. A later request that is refused leaves no
@@ -33,7 +33,7 @@ from refused import BENCH, Library, built
 
 # Lines of a script, each with the text that it gives.
 Lines = list[tuple[str, str]]
-# A status, and what stands on the error stream and in the output.
+# A status, and what is on the error stream and in the output.
 End = tuple[int, str, str]
 
 # Two applications with all kinds of objects, and two datasets.
@@ -70,12 +70,12 @@ def with_check(head: bytes, payload: bytes) -> str:
 
 
 def data(com_id: int, payload: bytes) -> str:
-    """Process data with counter 0, without topology counts."""
+    """Process data with counter 0, without topology counters."""
     return with_check(struct.pack(">IH2s7I", 0, 0x0100, b"Pd", com_id, 0, 0, len(payload), 0, 0, 0), payload)
 
 
 def message(kind: bytes, com_id: int, time: int, payload: bytes) -> str:
-    """A message of session 1, without topology counts, status and URIs."""
+    """A message of session 1, without topology counters, status and URIs."""
     head = struct.pack(">IH2s4Ii", 0, 0x0100, kind, com_id, 0, 0, len(payload), 0)
     return with_check(head + (1).to_bytes(16, "big") + struct.pack(">I", time) + bytes(64), payload)
 
@@ -131,7 +131,7 @@ SCRIPTS: dict[str, Lines] = {
 
 
 def text_of(lines: Lines, count: int) -> str:
-    """What the script gives for the lines that end within its first so many bytes."""
+    """What the script gives for the lines that end within that many bytes of it."""
     text, end = "", 0
     for line, gives in lines:
         end += len(line)
@@ -142,14 +142,14 @@ def text_of(lines: Lines, count: int) -> str:
 
 
 def whole_of(lines: Lines) -> End:
-    """What a script comes to where nothing is refused."""
+    """How a script ends where nothing is refused."""
     output = "".join(gives for _, gives in lines)
     status, errors = (3, f"line {len(lines)} fault Count\n") if lines[-1][0] == "moment" else (0, "")
     return status, errors, output
 
 
 def end_of(lines: Lines, kind: str, piece: int, number: int, ran: subprocess.CompletedProcess[str]) -> str | None:
-    """What a run came to in which that call was refused; None where it may not come to this."""
+    """How a run ended in which that call was refused; None where it may not end so."""
     whole = whole_of(lines)
     end = ran.returncode, ran.stderr, ran.stdout
     allowed: dict[str, list[End]]
@@ -167,7 +167,7 @@ def end_of(lines: Lines, kind: str, piece: int, number: int, ran: subprocess.Com
 
 
 def failures(library: Library, words: list[str], name: str, lines: Lines, kind: str, piece: int) -> int:
-    """Refuses each call of a kind in turn, tells what the runs came to, and answers how many failed."""
+    """Refuses each call of a kind in turn, prints how the runs ended, and answers how many failed."""
     # Where a write is refused the script comes at once, and its text leaves from one place.
     passes_on = "write_piece" if kind == "write" else "read_piece"
     settings: dict[str, Any] = {"input": "".join(line for line, _ in lines), passes_on: piece}

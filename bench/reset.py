@@ -1,5 +1,5 @@
 #!/usr/bin/env python3
-"""What it costs that a slot begins anew.
+"""What it costs to reset a slot.
 
     bench/reset.py [SECONDS] [PROGRAM]            default: 20 seconds, crates/trdpd/out/trdpd (./run prove builds it)
 
@@ -26,13 +26,13 @@ SLOTS, OBJECTS = 16, 256
 KINDS = ("publishers", "subscriptions", "requesters", "listeners", "callers", "repliers")
 QUOTAS = "".join(f"{kind} = {OBJECTS}\n" for kind in KINDS)
 ROUNDS = 15
-NOWHERE = f"{HOST}:9"                              # nobody is there
+NOWHERE = f"{HOST}:9"                              # no one is there
 LATE = 2**32 - 1                                  # the longest time, in microseconds
 CYCLE = 0.01                                      # seconds
 
 
 def calls(count: int) -> Iterator[str]:
-    """The lines by which a slot gets so many objects of each kind but repliers. Their comIds are one another's
+    """The lines by which a slot gets that many objects of each kind but repliers. Their comIds are one another's
     neighbours."""
     for i in range(count):
         yield f"publish {1000 + i} 0 {LATE} 0 0 0 {NOWHERE}"
@@ -106,7 +106,7 @@ def busy(node: Node) -> int:
 
 def lateness(came: list[float]) -> list[float]:
     """How much later each telegram left than one that is on time, in microseconds. A moment that was missed has no
-    telegram, so that what is told is how far each is behind the moment before it: less than a cycle."""
+    telegram, so that the answer is how far each is after the moment before it: less than a cycle."""
     phases = [(moment - came[0]) % CYCLE for moment in came]
     usual = statistics.median(phases)
     behind = [(phase - usual + CYCLE / 4) % CYCLE * 1e6 for phase in phases]

@@ -5,7 +5,7 @@
 
 For each of the two: the share of a processor that a node takes at which nothing comes, with three ports and a publisher
 of 100 ms; how late its telegrams leave, by the system's stamp at the socket that they come to, from the earliest one
-on; and how long a call waits for its answer, behind a pause of 5 to 50 ms. Then how long it waits while the control
+on; and how long a call waits for its answer, after a pause of 5 to 50 ms. Then how long it waits while the control
 port of the slot beside it is sent to without end, and while the ports of process data and of message data are. All is
 at 127.0.0.1.
 """
@@ -77,7 +77,7 @@ class Started:
 
 
 class Node(Started):
-    """A node of so many slots, each with these quotas and a control port, as a process."""
+    """A node of that many slots, each with these quotas and a control port, as a process."""
 
     def __init__(self, program: str, words: Sequence[str], slots: int, quotas: str = "publishers = 1\n") -> None:
         self.pd, self.md, *controls = free_ports(2 + slots)
@@ -130,7 +130,7 @@ def telegrams(node: Started, seconds: float, cycle: float = CYCLE) -> tuple[list
 def lateness(came: Sequence[float], cycle: float = CYCLE) -> list[float]:
     """How much later than the earliest each telegram left, in microseconds, where one is due each cycle. Half of them
     are on time, and none is three quarters of a cycle late. A moment that was missed has no telegram, so that each is
-    behind the moment before it."""
+    after the moment before it."""
     phases = [(moment - came[0]) % cycle for moment in came]
     usual = share(phases, 0.5)
     behind = [(phase - usual + cycle / 4) % cycle * 1e6 for phase in phases]
@@ -185,15 +185,25 @@ def quiet_row(program: str, name: str, kind: Sequence[str], seconds: float) -> N
           f"{share(times, 0.5):16.0f}{share(times, 0.99):8.0f}")
 
 
-def flooded_row(program: str, name: str, kind: Sequence[str], port_of: Callable[[Node], int], datagram: bytes) -> None:
-    """Tells how long a call waits at a node one port of which is sent to without end."""
-    node = Node(program, kind, 2)
+def flooded_times(program: str, kind: Sequence[str], flooded: str, slots: int = 2) -> list[float]:
+    """How long calls wait at a node with that many slots, one port of which is sent to without end, in microseconds."""
+    port_of, datagram = FLOODS[flooded]
+    node = Node(program, kind, slots)
     child = flood(port_of(node), datagram)
-    times = answer_times(node, lambda: 0.001)
-    os.kill(child, signal.SIGKILL)
-    os.waitpid(child, 0)
-    node.end()
-    print(f"{name:36}{'':34}{share(times, 0.5):16.0f}{share(times, 0.99):8.0f}")
+    try:
+        return answer_times(node, lambda: 0.001)
+    finally:
+        os.kill(child, signal.SIGKILL)
+        os.waitpid(child, 0)
+        node.end()
+
+
+# What is sent without end, by name: to which port of a node, and the datagram.
+FLOODS: dict[str, tuple[Callable[[Node], int], bytes]] = {
+    "other slot": (lambda node: node.controls[1], b"get 1"),
+    "process data": (lambda node: node.pd, process_data(300, bytes(8))),
+    "message data": (lambda node: node.md, notification(300, bytes(8))),
+}
 
 
 def main(words: list[str]) -> None:
@@ -204,14 +214,10 @@ def main(words: list[str]) -> None:
           "(%, microseconds)")
     for name, kind in kinds.items():
         quiet_row(program, name, kind, seconds)
-    floods: list[tuple[str, Callable[[Node], int], bytes]] = [
-        ("other slot flooded", lambda node: node.controls[1], b"get 1"),
-        ("process data flooded", lambda node: node.pd, process_data(300, bytes(8))),
-        ("message data flooded", lambda node: node.md, notification(300, bytes(8))),
-    ]
-    for flooded, port_of, datagram in floods:
+    for flooded in FLOODS:
         for name, kind in kinds.items():
-            flooded_row(program, f"{name}, {flooded}", kind, port_of, datagram)
+            times = flooded_times(program, kind, flooded)
+            print(f"{name + ', ' + flooded + ' flooded':36}{'':34}{share(times, 0.5):16.0f}{share(times, 0.99):8.0f}")
 
 
 if __name__ == "__main__":

@@ -6,7 +6,7 @@
 bench/bare_loop.rs, which rustc builds, is that loop: the same clock, ports, turns and numbers of datagrams of the same
 size, and no protocol. Each row is run up to three times, one program after the other, and the least processor time
 (user and system) counts, without that of the turns in which nothing came or went. All is at 127.0.0.1: two processes
-send what comes in as fast as they can, and what goes out reaches sockets that nobody reads. With strace on PATH the
+send what comes in as fast as they can, and what goes out reaches sockets that no one reads. With strace on PATH the
 system calls are counted too. It takes some 20 seconds, twice as long on a busy machine.
 """
 from __future__ import annotations
@@ -36,11 +36,11 @@ CALLS = 100                                       # calls that are made before t
 FLOODERS = 2
 # Seconds of processor time, and a program's totals.
 Served = tuple[float, dict[str, int]]
-FEW = 1000                                        # fewer datagrams than these tell nothing
+FEW = 1000                                        # fewer datagrams than these say nothing
 
 
 def telegram(kind: bytes, counter: int, com_id: int, payload: bytes) -> bytes:
-    """A telegram of that type (Pd, Pr), topology counts 0."""
+    """A telegram of that type (Pd, Pr), topology counters 0."""
     head = struct.pack(">IH2s7I", counter, 0x0100, kind, com_id, 0, 0, len(payload), 0, 0, 0)
     return head + struct.pack("<I", zlib.crc32(head)) + payload + bytes(-len(payload) % 4)
 
@@ -58,12 +58,12 @@ SUBSCRIBE = "subscribe {com_id} 0 0.0.0.0 0.0.0.0 0.0.0.0 0 0 0 keep"
 
 
 def subscriptions(count: int) -> list[str]:
-    """Calls by which the last of so many subscriptions is for comId 200."""
+    """Calls by which the last of that many subscriptions is for comId 200."""
     return [SUBSCRIBE.format(com_id=200 + count - 1 - i) for i in range(count)]
 
 
 def publishers(cycle: int, count: int) -> list[str]:
-    """Calls by which so many publishers have a value."""
+    """Calls by which that many publishers have a value."""
     puts = [f"put {handle} {bytes(PAYLOAD).hex()}" for handle in range(1, count + 1)]
     return [PUBLISH.replace("{cycle}", str(cycle))] * count + puts
 
@@ -97,7 +97,7 @@ ROWS = [
 
 
 def free_ports(count: int) -> list[int]:
-    """Numbers of so many UDP ports that nobody has at the moment."""
+    """Numbers of that many UDP ports that no one has at the moment."""
     held = [socket.socket(socket.AF_INET, socket.SOCK_DGRAM) for _ in range(count)]
     for taken in held:
         taken.bind((HOST, 0))
@@ -135,7 +135,7 @@ def make_calls(port: int, calls: Sequence[str]) -> bool:
 
 
 def flood(port: int, come: Sequence[bytes], gate: tuple[int, int]) -> int:
-    """Starts a process that sends the datagrams to a port, over and over, from the first byte in a pipe on until nobody
+    """Starts a process that sends the datagrams to a port, over and over, from the first byte in a pipe on until no one
     has the port. Answers its id."""
     child = os.fork()
     if child == 0:
@@ -149,7 +149,7 @@ def flood(port: int, come: Sequence[bytes], gate: tuple[int, int]) -> int:
 
 
 def send_all(port: int, come: Sequence[bytes]) -> None:
-    """Sends the datagrams to a port, over and over, until nobody has it."""
+    """Sends the datagrams to a port, over and over, until no one has it."""
     parts = [b"".join(come[i:i + BATCH]) for i in range(0, len(come), BATCH)]
     with socket.socket(socket.AF_INET, socket.SOCK_DGRAM) as out:
         out.connect((HOST, port))
@@ -197,7 +197,7 @@ def run(words: list[str], row: Row, ports: list[int], calls: Sequence[str]) -> S
 
 
 class Bench:
-    """The programs, the sockets that nobody reads, and where files are."""
+    """The programs, the sockets that no one reads, and where files are."""
 
     def __init__(self, program: str, folder: str) -> None:
         self.program, self.folder = program, folder
@@ -217,7 +217,7 @@ class Bench:
         return run([*before, self.program, "serve", config, "--turns", str(turns)], row, ports, calls)
 
     def loop(self, row: Row, turns: int, sends: int) -> Served:
-        """The same of the bare loop, which sends so many telegrams by itself."""
+        """The same of the bare loop, which sends that many telegrams by itself."""
         ports = free_ports(3)
         words = [turns, row.reply, sends, len(telegrams(200)[0]), self.sink.getsockname()[1], *ports]
         return run([self.bare, *map(str, words)], row, ports, ())

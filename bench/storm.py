@@ -36,7 +36,7 @@ def node(program: str, ports: tuple[int, int], first: int) -> tuple[subprocess.P
 
 
 def forge(source: int, to: int, payload: bytes) -> None:
-    """Sends a datagram from the source port, whoever has that."""
+    """Sends a datagram from the source port, whichever program has it."""
     udp = struct.pack(">HHHH", source, to, 8 + len(payload), 0) + payload
     with socket.socket(socket.AF_INET, socket.SOCK_RAW, socket.IPPROTO_UDP) as raw:
         raw.sendto(udp, (HOST, 0))

@@ -62,7 +62,7 @@ class Arrivals:
         callers = [it for it in objects if it.kind == "caller"]
         awaiting = [it for it in objects if it.kind == "replier" and not it.asked]
         it = self.draws.of(*objects)
-        # Some callers have to come to eight answers, and some repliers to their confirmation.
+        # Some callers have to reach eight answers, and some repliers their confirmation.
         if callers and self.draws.one_in(8):
             it = max(callers, key=lambda caller: len(caller.answers))
         elif awaiting and self.draws.one_in(6):

@@ -9,7 +9,7 @@ from .slot import SERVED, Slot
 from .telegrams import MD_PAYLOAD_MAX
 from .texts import ip_text, place_text
 
-# The words of a call, or those behind its first one.
+# The words of a call, or those after its first one.
 Words = tuple[object, ...]
 
 MAKING = ("publish", "subscribe", "openpull", "listen", "notify", "request")
@@ -140,5 +140,5 @@ SERVES = {"publisher": "put", "subscription": "get", "requester": "pull", "calle
 
 
 def nothing(it: Any) -> Words:
-    """The words behind the handle of a call that has none."""
+    """The words after the handle of a call that has none."""
     return ()

@@ -1,4 +1,4 @@
-"""Events by chance, each over what the slots by themselves have come to."""
+"""Events by chance, each over the state that the slots by themselves have reached."""
 from __future__ import annotations
 
 from collections.abc import Sequence

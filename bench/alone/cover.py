@@ -1,4 +1,4 @@
-"""What a run by chance has to come to: each kind of line, and what happens without one."""
+"""What a run by chance has to reach: each kind of line, and what happens without one."""
 from __future__ import annotations
 
 

@@ -97,7 +97,7 @@ class Draws:
         return self.random.randbytes(self.random.randrange(most))
 
     def long(self, limit: int, times: int = 50) -> bytes:
-        """Bytes about the limit, once in so many times, and else few."""
+        """Bytes about the limit, once in that many times, and else few."""
         return bytes(limit + self.of(-1, 0, 1, 1, 1)) if self.one_in(times) else self.data()
 
     def dataset(self) -> int:

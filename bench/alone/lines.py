@@ -67,7 +67,7 @@ class LineFault(Exception):
 
 
 class Event(NamedTuple):
-    """What a line says: its first word, or that of a call, what stands behind it, and the call's slot."""
+    """What a line says: its first word, or that of a call, what follows it, and the call's slot."""
 
     word: str
     values: tuple[Any, ...]

@@ -9,7 +9,7 @@ from .texts import Pair, hex_text, place_text
 
 # From how many places a caller takes answers at most.
 PLACES_MAX = 8
-# What a received time of 0 stands for, in microseconds.
+# What a received time of 0 means, in microseconds.
 TIME_UNSAID = 5_000_000
 
 
@@ -18,7 +18,7 @@ def sent(place: Pair, message: Message) -> str:
 
 
 def told(source: Pair, message: Message) -> str:
-    """A message, as a listener's slot is told of it."""
+    """A message, as a listener's slot receives it."""
     uris = f"{hex_text(message.source_uri)} {hex_text(message.dest_uri)}"
     return f"{place_text(source)} {message.com_id} {uris} {hex_text(message.payload)}"
 

@@ -1,4 +1,4 @@
-"""Scripts that stand in the repository with what they give: the rows of rows/, and the examples."""
+"""Scripts that are in the repository with what they give: the rows of rows/, and the examples."""
 from __future__ import annotations
 
 from collections.abc import Iterator
@@ -7,7 +7,7 @@ from importlib.util import module_from_spec, spec_from_loader
 from pathlib import Path
 from types import ModuleType
 
-# Where a script stands, its configuration, its lines, what it gives, and the fault at which it ends.
+# Where a script is, its configuration, its lines, what it gives, and the fault at which it ends.
 Script = tuple[str, str, str, str, str | None]
 
 
@@ -22,7 +22,7 @@ def reader(top: str) -> ModuleType:
 
 
 def rows_of(top: str) -> Iterator[Script]:
-    """Each row whose configuration is taken: where it stands, its configuration, its script, its output and its
+    """Each row whose configuration is accepted: where it is, its configuration, its script, its output and its
     ending."""
     reading, node = reader(top), Path(top, "rows", "node.toml").read_text()
     for file in sorted(Path(top, "rows").glob("*.rows")):

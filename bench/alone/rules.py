@@ -22,9 +22,9 @@ class Filter(Protocol):
 
 
 class Setting:
-    """What the objects of one slot may see: the time, topology counts, the groups that are led, and the configuration.
+    """What the objects of one slot may see: the time, topology counters, the groups that are led, the configuration.
 
-    Each slot has one of its own. `note` counts what happens without a line, so that a run can tell whether it came to
+    Each slot has one of its own. `note` counts what happens without a line, so that a run can say whether it came to
     it.
     """
 
@@ -43,7 +43,7 @@ def count_matches(a: int, b: int) -> bool:
 
 
 def counts_match(one: Pair, other: Pair) -> bool:
-    """Whether two pairs of topology counts match."""
+    """Whether two pairs of topology counters match."""
     return count_matches(one[0], other[0]) and count_matches(one[1], other[1])
 
 

@@ -107,7 +107,7 @@ class Slot:
         return [f"handle {made.handle}", *(made.request() if made.kind == "caller" else [])]
 
     def reset(self) -> list[str]:
-        """The slot begins anew: no object is left, and the next handle goes on."""
+        """The slot is reset: no object is left, and the next handle goes on."""
         self.objects.clear()
         return ["done"]
 

@@ -53,7 +53,7 @@ class Message(NamedTuple):
 
 
 def checked(head: bytes) -> bytes:
-    """A header without its frame check, and the check behind it."""
+    """A header without its frame check, and the check after it."""
     return head + struct.pack("<I", zlib.crc32(head))
 
 

@@ -4,7 +4,7 @@ from __future__ import annotations
 import re
 import uuid
 
-# An address and a port, two bounds, or two topology counts.
+# An address and a port, two bounds, or two topology counters.
 Pair = tuple[int, int]
 
 NUMBER = re.compile(r"0|[1-9][0-9]*")
