@@ -1,4 +1,4 @@
-/* A door controller: it tells the other side how its doors are, and shows how those of the other
+/* A door controller: it sends the other side how its doors are, and shows how those of the other
  * side are, once a second.
  *
  *     gcc -std=c99 -Wall -Wextra -O2 -o door clients/c/door.c
@@ -8,8 +8,8 @@
  *
  * ADDRESS and PORT are those of its slot's control port, PATH is that of its control socket, with a
  * slash in it, and OTHER is the address of the other side's node. door.toml and other.toml
- * configure both sides. It begins with a reset, and makes its objects anew where they are gone. The
- * exit status is 2 for other words, 1 where the slot can't be opened. */
+ * configure both sides. It begins with a reset, and makes its objects again where they are gone.
+ * The exit status is 2 for other words, 1 where the slot can't be opened. */
 #include "trdp_slot.h"
 
 #include <stdio.h>
@@ -62,13 +62,13 @@ static enum trdp_slot_error tell_and_show(struct doors *doors, uint8_t obstacles
     if (error == TRDP_SLOT_OK)
         printf("%s: %u doors, %u bytes\n", trdp_slot_state_text(value.state),
             (unsigned)bytes[0], (unsigned)value.length);
-    /* The daemon was started anew, or the connection has ended. */
+    /* The daemon was started again, or the connection has ended. */
     if (error == TRDP_SLOT_REFUSED_NO_HANDLE || error == TRDP_SLOT_RESTARTED)
         begin_anew(doors);
     return error;
 }
 
-/* Shows what the node tells of its own accord, for some time, or until the connection has ended. */
+/* Shows what the node sends without being asked, for some time, or until the connection ends. */
 static void listen_for(struct doors *doors, uint32_t milliseconds)
 {
     int64_t end = trdp_slot_now() + milliseconds, left;

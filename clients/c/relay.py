@@ -35,7 +35,7 @@ class Relay(threading.Thread):
             try:
                 self.up.send(line)
             except OSError:
-                pass  # nobody is there now
+                pass  # no one is there now
 
     def come_back(self) -> None:
         """Passes texts back to the client, or does with them what it was told to."""
@@ -59,7 +59,7 @@ class Relay(threading.Thread):
                 self.pass_on(text)
 
     def pass_on(self, text: bytes) -> None:
-        """Sends one text to the client: a daemon answers nobody who didn't call."""
+        """Sends one text to the client: a daemon answers no one who didn't call."""
         assert self.client is not None
         self.down.sendto(text, self.client)
 
@@ -69,7 +69,7 @@ class Relay(threading.Thread):
         return len(words) > 1 and words[1] in ANSWERS
 
     def set(self, way: str, count: int) -> None:
-        """Drops, doubles or holds back so many of the next answers."""
+        """Drops, doubles or holds back that many of the next answers."""
         with self.lock:
             self.left[way] = count
 

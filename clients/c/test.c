@@ -38,7 +38,7 @@ uint32_t test_address(const char *text)
     return address;
 }
 
-/* The terms of a slot with its buffers, and one try of so many milliseconds. */
+/* The terms of a slot with its buffers, and one try of that many milliseconds. */
 static struct trdp_slot_terms terms_of(struct test_slot *it, uint32_t timeout)
 {
     return (struct trdp_slot_terms){ .timeout = timeout, .tries = 1,

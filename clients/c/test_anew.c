@@ -66,7 +66,7 @@ static void late_answers(struct trdp_slot *slot, uint32_t first)
     CHECK_ERROR(trdp_slot_unpublish(slot, first), TRDP_SLOT_OK);
     CHECK(slot->stale == stale + 3 && slot->strange == 0);
     CHECK_ERROR(trdp_slot_unpublish(slot, handle + 1), TRDP_SLOT_OK);
-    /* A reset whose answer is lost, though that to the mark behind it isn't. */
+    /* A reset whose answer is lost, though that to the mark after it isn't. */
     slot->terms.tries = 3;
     script("drop 1");
     CHECK_ERROR(trdp_slot_reset(slot), TRDP_SLOT_OK);
@@ -82,7 +82,7 @@ static enum trdp_slot_error begin(uint32_t *publishes)
         : trdp_slot_put(door, *publishes, closed, sizeof closed);
 }
 
-/* The doors' slot begins anew: what it had is gone, and its handles go on. */
+/* The doors' slot is reset: what it had is gone, and its handles go on. */
 static void begun_anew(void)
 {
     struct trdp_slot_publisher terms = publisher();
@@ -96,8 +96,8 @@ static void begun_anew(void)
     CHECK_ERROR(trdp_slot_reset(door), TRDP_SLOT_OK);
 }
 
-/* A daemon that is ended, and one that is started anew: the application learns of it by a refusal,
- * and makes its objects anew. */
+/* A daemon that is ended, and one that is started again: the application learns of it by a
+ * refusal, and makes its objects again. */
 static void started_anew(void)
 {
     uint32_t publishes = 0, follows = 0;
@@ -122,8 +122,8 @@ static void started_anew(void)
     CHECK_ERROR(trdp_slot_unsubscribe(other, follows), TRDP_SLOT_OK);
 }
 
-/* A daemon that has a lease of a second: an application keeps its objects that knows, though it only
- * waits, and one that says nothing loses them. */
+/* A daemon that has a lease of a second: an application keeps its objects that knows it, though it
+ * only waits, and one that says nothing loses them. */
 static void leased(void)
 {
     uint32_t publishes = 0;
@@ -191,7 +191,7 @@ static void longest(void)
     CHECK_ERROR(trdp_slot_unlisten(door, all), TRDP_SLOT_OK);
 }
 
-/* Waits until the doors' node has taken so many datagrams and lines, beside the lines of its
+/* Waits until the doors' node has taken that many datagrams and lines, beside the lines of its
  * operator, which this says. */
 static bool have_taken(struct trdp_slot *operates, uint64_t count)
 {
@@ -206,8 +206,8 @@ static bool have_taken(struct trdp_slot *operates, uint64_t count)
     return tally.taken >= count + said;
 }
 
-/* Many notifications to an application that doesn't read: those that it is told, and those that it
- * is told were lost, are all. */
+/* Many notifications to an application that doesn't read: those that it receives, and those that
+ * it learns were lost, are all. */
 static void unread(void)
 {
     enum { COUNT = 2000, LENGTH = 200 };
@@ -222,7 +222,7 @@ static void unread(void)
     enum trdp_slot_error error;
     test_open(&operator_slot, "127.0.9.1", 18100, WAIT);
     CHECK_ERROR(trdp_slot_listen(door, &any, &all), TRDP_SLOT_OK);
-    /* The ends of the operators of before may not be seen yet. */
+    /* The ends of the earlier operators may not be seen yet. */
     while ((error = trdp_slot_totals(operates, &tally)) == TRDP_SLOT_BUSY
         && trdp_slot_now() < until)
         poll(NULL, 0, 10);

@@ -30,7 +30,7 @@ static void stale_answers(void)
     struct trdp_slot_indication told;
     CHECK_ERROR(trdp_slot_next(&at_port.slot, 0, &told, NULL, 0), TRDP_SLOT_OK);
     CHECK(at_port.slot.stale == stale + 2 && told.handle == 9);
-    /* No answer at all: so many tries of so many milliseconds. */
+    /* No answer at all: that many tries of that many milliseconds. */
     tell('=', "");
     int64_t start = trdp_slot_now();
     at_port.slot.terms.timeout = 20;
@@ -52,7 +52,7 @@ static struct trdp_slot_indication next(enum trdp_slot_error wanted, uint32_t wa
 }
 
 /* Indications that come while an answer is awaited are kept in their order; and those for which
- * there is no room are told as lost. */
+ * there is no room are reported as lost. */
 static void kept_indications(void)
 {
     tell('=', "0 silent 1\n|0 alive 2\n|0 closed 3 Done\n|0 done\n|0 silent 4\n");
@@ -80,7 +80,7 @@ static void kept_indications(void)
     CHECK(told.length == 5 && told.payload[3] == 4 && told.com_id == 300);
 }
 
-/* A datagram that is longer than the slot's text is told as lost. */
+/* A datagram that is longer than the slot's text is reported as lost. */
 static void overlong(void)
 {
     static char text[6000];
@@ -96,7 +96,7 @@ static void overlong(void)
     next(TRDP_SLOT_TIMEOUT, 0);
 }
 
-/* Takes all that waits; counts what is told, and what is told as lost. */
+/* Takes all that waits; counts what comes, and what is reported as lost. */
 static void take_all(uint32_t *told_of, uint32_t *lost)
 {
     struct trdp_slot_indication told;
@@ -109,7 +109,7 @@ static void take_all(uint32_t *told_of, uint32_t *lost)
     }
 }
 
-/* What the system drops since its buffer is full is told with the next datagram, where the system
+/* What the system drops as its buffer is full is reported with the next datagram, where the system
  * counts it. */
 static void flood(void)
 {
@@ -129,7 +129,7 @@ static void flood(void)
 #endif
 }
 
-/* A reset is over with the mark behind it, and sent again where that isn't answered, or the answer
+/* A reset is over with the mark after it, and sent again where that isn't answered, or the answer
  * to the reset itself isn't there. */
 static void reset(void)
 {
@@ -165,7 +165,7 @@ static void reset(void)
     CHECK_ERROR(trdp_slot_reset(&at_port.slot), TRDP_SLOT_OTHER_SLOT);
 }
 
-/* An answer that comes behind its time isn't that to the next call. */
+/* An answer that comes after its time isn't that to the next call. */
 static void late_answers(void)
 {
     uint32_t handle = 0, stale = at_port.slot.stale;

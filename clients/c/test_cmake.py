@@ -16,7 +16,9 @@ import tempfile
 import unittest
 
 HERE = pathlib.Path(__file__).resolve().parent
-VERSION_FILE = HERE.parent.parent / "crates/trdpd/src/version.rt"
+sys.path.insert(0, str(HERE.parent.parent / "package"))
+from version import program_version  # noqa: E402
+
 INSTALLED = {"include/trdp_slot.h", "share/cmake/TrdpSlot/TrdpSlotConfig.cmake",
              "share/cmake/TrdpSlot/TrdpSlotConfigVersion.cmake", "share/pkgconfig/trdp-slot.pc"}
 # Compilers, the language of each, and what has them take that language alone.
@@ -86,7 +88,7 @@ class Install(unittest.TestCase):
     def test_pkg_config(self) -> None:
         asked, known = ["pkg-config", "trdp-slot"], {"PKG_CONFIG_PATH": str(self.tree / "share/pkgconfig")}
         version = self.said(*asked, "--modversion", **known).strip()
-        self.assertIn(f'VERSION: &str = "{version}";', VERSION_FILE.read_text())
+        self.assertEqual(version, program_version())
         flags = self.said(*asked, "--cflags", **known).split()
         program = self.folder / "program"
         for compiler in filter(shutil.which, COMPILERS):

@@ -1,7 +1,7 @@
 /* Control sockets: `busy`, ends, answers that come late, resets and leases. */
 #include "test_paths.h"
 
-/* Another application lives there, as often as is said; then it doesn't. The first time may be told
+/* Another application lives there, as often as is said; then it doesn't. The first time may be said
  * when the path is opened. */
 static void says_busy(int listener)
 {
@@ -14,7 +14,7 @@ static void says_busy(int listener)
     hears(connection, "pull 1");
     says(connection, "0 done\n");
     hears(connection, "pull 2");
-    /* What is said before the end is `busy` though the line behind it isn't heard. */
+    /* What is said before the end is `busy` though the line after it isn't heard. */
     says(connection, "0 silent 1\nbusy\n");
     close(connection);
     listen(listener, 0);
@@ -35,7 +35,7 @@ static void busy(void)
     CHECK_ERROR(next(WAIT), TRDP_SLOT_BUSY);
     CHECK(trdp_slot_now() - start >= TRDP_SLOT_PAUSE / 2);
     CHECK_ERROR(trdp_slot_pull(slot, 1), TRDP_SLOT_OK);
-    /* A line that can't be sent is told by what was said before. */
+    /* A line that can't be sent shows in what was said before. */
     char line[] = "pull 2";
     CHECK_ERROR(trdp_slot_send(slot, line, 6, trdp_slot_now() + WAIT), TRDP_SLOT_OK);
     struct pollfd wait = { slot->socket, 0, 0 };
@@ -85,12 +85,12 @@ static void ended(void)
     CHECK(next(WAIT) == TRDP_SLOT_RESTARTED && slot->socket == -1);
     CHECK_ERROR(trdp_slot_pull(slot, 2), TRDP_SLOT_RESTARTED);
     CHECK_ERROR(trdp_slot_pull(slot, 3), TRDP_SLOT_OK);
-    /* What was kept tells of objects that are gone. */
+    /* What was kept is about objects that are gone. */
     CHECK(slot->kept_length > 0);
     CHECK_ERROR(trdp_slot_reset(slot), TRDP_SLOT_RESTARTED);
     CHECK(child_is_done() && slot->kept_length == 0);
     CHECK(next(0) == TRDP_SLOT_LOST && told_at_path.lost == 1);
-    /* Nobody listens at the path, or there is none: a call says so at once, and who waits waits. */
+    /* No one listens at the path, or there is none: a call says so at once, and who waits waits. */
     CHECK_ERROR(trdp_slot_pull(slot, 3), TRDP_SLOT_NOBODY);
     int64_t start = trdp_slot_now();
     CHECK_ERROR(next(50), TRDP_SLOT_NOBODY);
@@ -121,7 +121,7 @@ static void answers_late(int listener)
     says(connection, "0 done\nline fault BadWord\n");
     hears(connection, "pull 6");
     says(connection, "0 refused State\n");
-    hears(connection, "pull 7"); /* whose answer is lost, and that to the mark behind it */
+    hears(connection, "pull 7"); /* whose answer is lost, and that to the mark after it */
     hears(connection, "mark");
     says(connection, "lost 2\n");
     hears(connection, "get");
@@ -158,7 +158,7 @@ static void late_answers(void)
     close_and_wait();
 }
 
-/* A reset isn't over before the mark behind it is answered. */
+/* A reset isn't over before the mark after it is answered. */
 static void resets(int listener)
 {
     int connection = begins(listener);
@@ -183,7 +183,7 @@ static void reset(void)
     close_and_wait();
 }
 
-/* A remark while the slot waits, and while a call does; none without a lease, and none behind a
+/* A remark while the slot waits, and while a call does; none without a lease, and none after a
  * line that is younger than a third of it. */
 static void hears_remarks(int listener)
 {

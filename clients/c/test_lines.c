@@ -99,7 +99,7 @@ static void message_lines(void)
     CHECK(!trdp_slot_unlisten(slot, 4) && had("unlisten 4"));
 }
 
-/* What an operator is told. */
+/* What an operator learns. */
 static void operator_texts(void)
 {
     struct trdp_slot_tally totals;

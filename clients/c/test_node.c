@@ -1,7 +1,7 @@
 /* The calls and the indications, at two daemons that the script `check` starts and ends where it
  * is told to: door.toml at 127.0.9.1, over UDP with a relay before it at 127.0.9.3, and other.toml
- * at 127.0.9.2. A line with @ before it tells the script what to do; it answers when that is done.
- * This has process data and notifications. */
+ * at 127.0.9.2. A line with @ before it says to the script what to do; it answers when that is
+ * done. This has process data and notifications. */
 #include "test_node.h"
 
 #include <stdio.h>

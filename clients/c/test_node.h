@@ -9,7 +9,7 @@ extern struct test_slot doors, others;
 static struct trdp_slot *const door = &doors.slot, *const other = &others.slot;
 extern uint32_t door_address, other_address;
 
-/* What was told last, and its payload. */
+/* The latest indication, and its payload. */
 extern struct trdp_slot_indication told;
 extern uint8_t payload[2048];
 
@@ -26,7 +26,7 @@ bool is_told(struct trdp_slot *slot, enum trdp_slot_kind kind, uint32_t handle);
 /* Whether the next indication of a slot is that this object is over for that reason. */
 bool is_closed(struct trdp_slot *slot, uint32_t handle, enum trdp_slot_reason reason);
 
-/* Whether nothing is told to a slot for a moment. */
+/* Whether nothing comes to a slot for a while. */
 bool is_quiet(struct trdp_slot *slot);
 
 /* Whether a subscription shows this. */

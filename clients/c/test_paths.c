@@ -196,7 +196,7 @@ static void longest(void)
     close_and_wait();
 }
 
-/* A line that is longer than the text is lost, and what is behind it isn't. */
+/* A line that is longer than the text is lost, and what is after it isn't. */
 static void says_overlong(int listener)
 {
     int connection = begins(listener);
@@ -213,7 +213,7 @@ static void says_overlong(int listener)
     says(connection, "0 done\n0 silent 5\nlost 3\nlost 4\n0 silent 6\n");
 }
 
-/* What the daemon dropped is told in its place. */
+/* What the daemon dropped is reported in its place. */
 static void losses(void)
 {
     if (!open_at(says_overlong, WAIT))

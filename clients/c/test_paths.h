@@ -5,7 +5,7 @@
 
 #include "test.h"
 
-/* The path, the slot at it, and what it was told last. */
+/* The path, the slot at it, and its latest indication. */
 extern char path[64];
 extern struct test_slot at_path;
 static struct trdp_slot *const slot = &at_path.slot;

@@ -73,7 +73,7 @@ static void answers(void)
 /* Sessions that end otherwise. */
 static void endings(void)
 {
-    /* Nobody answers. */
+    /* No one answers. */
     CHECK(is_asked(0, 60000, 0) && is_closed(door, replier, TRDP_SLOT_REPLY_MISSED));
     CHECK(is_closed(other, caller, TRDP_SLOT_NO_REPLY));
     /* It is asked again once its replier is over. */

@@ -41,7 +41,7 @@ static const char *mark_fault(const char *text, size_t length)
 
 /* The daemon: what comes from the teller with `=` before it is said to the next line of the slot,
  * and with `!` at once to where the latest line came from; `?` is answered by that line. A mark is
- * answered, and isn't the latest line; where `%` and a number came before, so many of them aren't
+ * answered, and isn't the latest line; where `%` and a number came before, that many of them aren't
  * answered. */
 static void daemon_of_test(int socket)
 {
@@ -121,7 +121,7 @@ bool had(const char *line)
     return is_so;
 }
 
-/* The daemon ends while the answer to the first try is waited for. The second one finds nobody, but
+/* The daemon ends while the answer to the first try is waited for. The second one finds no one, but
  * it isn't known whether the first one took effect. */
 static void ends_meanwhile(pid_t child)
 {
@@ -139,7 +139,7 @@ static void ends_meanwhile(pid_t child)
     waitpid(killer, NULL, 0);
 }
 
-/* Nobody is there any more, which is told at once. */
+/* No one is there any more, which is reported at once. */
 static void nobody(void)
 {
     int64_t start = trdp_slot_now();

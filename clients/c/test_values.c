@@ -34,7 +34,7 @@ static size_t number(void)
     return (size_t)strtoull(word(), NULL, 10);
 }
 
-/* Reads the datasets. Each member stands behind the one before, with a byte between them, so that
+/* Reads the datasets. Each member is after the one before, with a byte between them, so that
  * none is where its type would have it. */
 static void read_datasets(void)
 {

@@ -23,9 +23,9 @@
  *
  * Every function answers an enum trdp_slot_error, and TRDP_SLOT_OK where it did what it says.
  *
- * BEGINNING ANEW. A program that makes objects calls trdp_slot_reset before, and again whenever it
+ * A CLEAN START. A program that makes objects calls trdp_slot_reset before, and again whenever it
  * learns that its objects are gone: nothing of an earlier program, or of half a try, is left then.
- * No other function does that, so that one that only looks disturbs nobody's objects.
+ * No other function does that, so that one that only looks disturbs no objects.
  *
  * LOST ANSWERS. A call waits `timeout` milliseconds for its answer. Over UDP it then sends the same
  * line again, `tries` times in all. The node may have taken the line all the same, where it was the
@@ -38,7 +38,7 @@
  *     addslot                        a second slot
  *     pull, notify                   the telegram goes out twice
  *     request                        refused SessionOpen; the caller's handle stays unknown until
- *                                    `replied` or `closed` tells it
+ *                                    `replied` or `closed` has it
  *     query                          refused State
  *     confirm                        refused State, or NoHandle where the caller is over
  *     reply, replyerror, abort,      refused NoHandle, as the object is over
@@ -58,24 +58,24 @@
  * the way keeps the order, as within a machine, no answer is taken for that to another call, but
  * for one that the way brings twice, which the one within a machine doesn't.
  *
- * OBJECTS THAT ARE GONE. A daemon that was started anew has no objects, and refuses handles that it
- * once gave; so does one whose lease for this slot has run out. TRDP_SLOT_REFUSED_NO_HANDLE of a
- * handle that should be there says that all objects are to be made again. (At a second try it may
- * also say that the first one took effect.) Over UDP indications alone don't tell it, so an
- * application that only waits for them calls `get` now and then: that also has the indications come
- * here again. At a control socket the end of the connection tells it, once, by
- * TRDP_SLOT_RESTARTED, whether a call or trdp_slot_next finds it. The next call connects again.
- * While the daemon is gone that answers TRDP_SLOT_NOBODY, or TRDP_SLOT_SYSTEM with EACCES while the
- * path isn't this application's yet; TRDP_SLOT_BUSY where another application came before. What was
- * kept of the connection is dropped, and counted as lost.
+ * OBJECTS THAT ARE GONE. A daemon that was started again has no objects, and refuses handles that
+ * it once gave; so does one whose lease for this slot has run out. TRDP_SLOT_REFUSED_NO_HANDLE of
+ * a handle that should be there says that all objects are to be made again. (At a second try it
+ * may also say that the first one took effect.) Over UDP indications alone don't say so, so an
+ * application that only waits for them calls `get` now and then: then the indications also come
+ * here again. At a control socket the end of the connection says so, once, by TRDP_SLOT_RESTARTED,
+ * whether a call or trdp_slot_next finds it. The next call connects again. While the daemon is
+ * gone that answers TRDP_SLOT_NOBODY, or TRDP_SLOT_SYSTEM with EACCES while the path isn't this
+ * application's yet; TRDP_SLOT_BUSY where another application came before. What was kept of the
+ * connection is dropped, and counted as lost.
  *
- * INDICATIONS THAT COME WHILE AN ANSWER IS AWAITED are kept in the caller's `kept` and told by
- * trdp_slot_next in their order. One that finds no room there, or is longer than `text`, is
- * dropped and counted, and the next trdp_slot_next answers TRDP_SLOT_LOST and how many. On Linux
- * the same is told of datagrams that the system dropped since the socket's buffer was full, once
- * another one comes. At a control socket the daemon says how many texts it dropped, and
- * trdp_slot_next tells that in their place. What the daemon couldn't send over UDP, nobody is told
- * (docs/DAEMON.md).
+ * INDICATIONS THAT COME WHILE AN ANSWER IS AWAITED are kept in the caller's `kept`, and
+ * trdp_slot_next returns them in their order. One that finds no room there, or is longer than
+ * `text`, is dropped and counted, and the next trdp_slot_next answers TRDP_SLOT_LOST and how many.
+ * On Linux it does the same for datagrams that the system dropped because the socket's buffer was
+ * full, once another one comes. At a control socket the daemon says how many texts it dropped, and
+ * trdp_slot_next reports that in their place. What the daemon couldn't send over UDP, no one
+ * learns (docs/DAEMON.md).
  *
  * A LEASE. Where the daemon has one, `lease` of the terms says how long it is. The slot then says a
  * remark, `#`, whenever a third of it has passed since its latest line, in a call that waits and in
@@ -120,7 +120,7 @@ enum {
     TRDP_SLOT_LINE = 140000,
     /* The longest payload of a message. Over UDP it has some 32,000 bytes at most. */
     TRDP_SLOT_MESSAGE = 65388,
-    /* The bytes of a control socket's path with the zero behind it. */
+    /* The bytes of a control socket's path with the zero after it. */
     TRDP_SLOT_PATH = 108,
     /* The most slots of a node. */
     TRDP_SLOT_SLOTS = 16,
@@ -128,20 +128,20 @@ enum {
     TRDP_SLOT_PAUSE = 100,
     /* The longest value of a publisher or a subscription. */
     TRDP_SLOT_VALUE = 1432,
-    /* The longest URI, without the zero behind it. */
+    /* The longest URI, without the zero after it. */
     TRDP_SLOT_URI = 32,
     /* The bytes of a session's identifier. */
     TRDP_SLOT_SESSION = 16,
-    /* The bytes of an address's text with the zero behind it. */
+    /* The bytes of an address's text with the zero after it. */
     TRDP_SLOT_ADDRESS_TEXT = 16
 };
 
-/* What a function came to. trdp_slot_error_text gives the text of each. */
+/* How a function ended. trdp_slot_error_text gives the text of each. */
 enum trdp_slot_error {
     TRDP_SLOT_OK,
     /* No answer came at any try, or no indication within the wait. */
     TRDP_SLOT_TIMEOUT,
-    /* Nobody is at the control port, as the system said at once; a call wasn't taken. */
+    /* No one is at the control port, as the system said at once; a call wasn't taken. */
     TRDP_SLOT_NOBODY,
     /* The system refused; errno says why. */
     TRDP_SLOT_SYSTEM,
@@ -151,7 +151,7 @@ enum trdp_slot_error {
     TRDP_SLOT_LONG,
     /* The bytes are more than the room that was handed in; the first of them are there. */
     TRDP_SLOT_CUT,
-    /* Indications were lost, or answers; how many is told. */
+    /* Indications were lost, or answers; `lost` says how many. */
     TRDP_SLOT_LOST,
     /* The control port is that of another slot than `number`, which has taken the call. */
     TRDP_SLOT_OTHER_SLOT,
@@ -197,7 +197,7 @@ enum trdp_slot_error {
     TRDP_SLOT_NODE_OTHERWISE
 };
 
-/* An address and a port, as 10.0.0.2:17224. */
+/* An address and a port, such as 10.0.0.2:17224. */
 struct trdp_slot_place {
     uint32_t address; /* host order: 0x0a000002 is 10.0.0.2 */
     uint16_t port;
@@ -215,7 +215,7 @@ struct trdp_slot_terms {
     char *text;       /* for what comes */
     size_t text_room; /* the same, and at least TRDP_SLOT_TEXT_ROOM */
     uint8_t *kept;    /* for indications that come while an answer is awaited */
-    size_t kept_room; /* their bytes and four for each; with 0 each of them is lost, and told so */
+    size_t kept_room; /* their bytes and four for each; with 0 each is lost, and counted */
     uint32_t lease;   /* the daemon's lease, in milliseconds; 0 where it has none */
 };
 
@@ -226,7 +226,7 @@ struct trdp_slot {
     int socket;         /* for a poll of one's own; -1 where there is no connection */
     size_t kept_length; /* how much of `kept` is in use; 0 where no indication is kept */
     uint32_t tried;     /* how often the line of the latest call was sent */
-    uint32_t lost;      /* indications that were lost and aren't told yet */
+    uint32_t lost;      /* indications that were lost and aren't reported yet */
     uint32_t stale;     /* answers that belonged to no call that waited */
     uint32_t strange;   /* texts that this header can't read */
     uint32_t dropped;   /* the system's count of datagrams that it dropped */
@@ -252,7 +252,7 @@ struct trdp_slot_publisher {
     uint32_t dataset; /* one of the configuration, or 0 for any bytes */
     uint32_t cycle;   /* in microseconds, 1000 or more; 0 to send only when it is pulled */
     uint8_t group;    /* the redundancy group, 0 for none */
-    uint32_t etb;     /* the topology counts of its telegrams, 0 for every train */
+    uint32_t etb;     /* the topology counters of its telegrams, 0 for every train */
     uint32_t op_trn;
     struct trdp_slot_place to;
 };
@@ -307,7 +307,7 @@ struct trdp_slot_notification {
 /* What a caller is made of, which sends a request and waits for its answers. */
 struct trdp_slot_caller {
     uint32_t com_id;
-    uint8_t session[TRDP_SLOT_SESSION]; /* bytes that nobody else in the train uses */
+    uint8_t session[TRDP_SLOT_SESSION]; /* bytes that no one else in the train uses */
     uint8_t expected;                   /* how many places are to answer, 1 to 8; 0 for any */
     uint32_t time;                      /* how long is waited, in microseconds, 1000 or more */
     const char *source_uri;             /* as of a notification */
@@ -326,17 +326,17 @@ enum trdp_slot_state { TRDP_SLOT_NEVER, TRDP_SLOT_VALID, TRDP_SLOT_SILENT };
 /* What a subscription shows. Its bytes lie where the caller said. */
 struct trdp_slot_value {
     enum trdp_slot_state state;
-    uint32_t counter; /* of the latest telegram that was taken */
+    uint32_t counter; /* of the latest telegram that was accepted */
     size_t length;    /* of the whole value, in bytes */
 };
 
-/* What a node tells of its own accord. */
+/* What a node sends without being asked. */
 enum trdp_slot_kind {
     TRDP_SLOT_FELL_SILENT, /* `silent`: a subscription heard nothing for its supervision time */
-    TRDP_SLOT_ALIVE,       /* a silent subscription has taken a telegram again */
+    TRDP_SLOT_ALIVE,       /* a silent subscription accepted a telegram again */
     TRDP_SLOT_NOTIFIED,    /* a listener heard a notification */
     TRDP_SLOT_ASKED,       /* a listener heard a request; `replier` owes the answer */
-    TRDP_SLOT_OVERRUN,     /* a listener heard a request that nobody will answer */
+    TRDP_SLOT_OVERRUN,     /* a listener heard a request that no one will answer */
     TRDP_SLOT_REPLIED,     /* a caller has an answer */
     TRDP_SLOT_CONFIRMED,   /* a replier's query is confirmed, and it is over */
     TRDP_SLOT_CLOSED       /* a caller or a replier is over */
@@ -358,12 +358,12 @@ enum trdp_slot_reason {
 /* An indication. What isn't said to be of its kind is 0. */
 struct trdp_slot_indication {
     enum trdp_slot_kind kind;
-    uint32_t handle;                           /* of the object that it is told of */
+    uint32_t handle;                           /* of the object that it is about */
     uint32_t replier;                          /* asked: the handle to answer with */
     uint8_t session[TRDP_SLOT_SESSION];        /* asked */
     struct trdp_slot_place source;             /* notified, asked, replied */
     uint32_t com_id;                           /* notified, asked, replied */
-    char source_uri[TRDP_SLOT_URI + 1];        /* notified, asked: with a zero behind it */
+    char source_uri[TRDP_SLOT_URI + 1];        /* notified, asked: with a zero after it */
     char destination_uri[TRDP_SLOT_URI + 1];   /* notified, asked */
     enum trdp_slot_answer answer;              /* replied */
     int32_t status;                            /* replied, confirmed */
@@ -568,7 +568,7 @@ static inline struct trdp_slot_place trdp_slot_read_place(struct trdp_slot_reade
     return place;
 }
 
-/* What a hexadecimal digit stands for; 16 for what is none. */
+/* The value of a hexadecimal digit; 16 for what is none. */
 static inline unsigned trdp_slot_digit(char digit)
 {
     if (digit >= '0' && digit <= '9')
@@ -644,7 +644,7 @@ enum trdp_slot_form {
     TRDP_SLOT_FORM_VALUE,
     TRDP_SLOT_FORM_ERROR,      /* a refusal, a line fault or a node's fault */
     TRDP_SLOT_FORM_INDICATION,
-    TRDP_SLOT_FORM_LOST,       /* so many texts were lost */
+    TRDP_SLOT_FORM_LOST,       /* that many texts were lost */
     TRDP_SLOT_FORM_OK,         /* of the operator's port */
     TRDP_SLOT_FORM_TOTALS,
     TRDP_SLOT_FORM_USAGES      /* the lines of one slot or of several */
@@ -688,7 +688,7 @@ static inline enum trdp_slot_form trdp_slot_read_error(struct trdp_slot_reader *
     return TRDP_SLOT_FORM_ERROR;
 }
 
-/* The value behind `value`. */
+/* The value after `value`. */
 static inline enum trdp_slot_form trdp_slot_read_value(struct trdp_slot_reader *reader,
     struct trdp_slot_said *said)
 {
@@ -708,7 +708,7 @@ static inline enum trdp_slot_form trdp_slot_read_value(struct trdp_slot_reader *
     return TRDP_SLOT_FORM_VALUE;
 }
 
-/* The message of `notified` and `asked`, behind the handles. */
+/* The message of `notified` and `asked`, after the handles. */
 static inline void trdp_slot_read_message(struct trdp_slot_reader *reader,
     struct trdp_slot_said *said)
 {
@@ -723,7 +723,7 @@ static inline void trdp_slot_read_message(struct trdp_slot_reader *reader,
     said->digits = trdp_slot_read_digits(reader);
 }
 
-/* The answer of `replied`, behind the handle. */
+/* The answer of `replied`, after the handle. */
 static inline void trdp_slot_read_reply(struct trdp_slot_reader *reader,
     struct trdp_slot_said *said)
 {
@@ -759,7 +759,7 @@ static inline void trdp_slot_read_reason(struct trdp_slot_reader *reader,
         said->told.reason = (enum trdp_slot_reason)reason;
 }
 
-/* An indication, behind the slot's number. */
+/* An indication, after the slot's number. */
 static inline enum trdp_slot_form trdp_slot_read_indication(struct trdp_slot_reader *reader,
     struct trdp_slot_said *said)
 {
@@ -795,7 +795,7 @@ static inline enum trdp_slot_form trdp_slot_read_indication(struct trdp_slot_rea
     return TRDP_SLOT_FORM_INDICATION;
 }
 
-/* An answer or an indication, behind the slot's number. */
+/* An answer or an indication, after the slot's number. */
 static inline enum trdp_slot_form trdp_slot_read_content(struct trdp_slot_reader *reader,
     struct trdp_slot_said *said)
 {
@@ -816,7 +816,7 @@ static inline enum trdp_slot_form trdp_slot_read_content(struct trdp_slot_reader
     return trdp_slot_read_indication(reader, said);
 }
 
-/* What an operator is told of a slot: its number, its objects and quotas of each kind, and how long
+/* What an operator learns of a slot: its number, its objects and quotas of each kind, and how long
  * ago its latest line came. */
 static inline void trdp_slot_read_usage(struct trdp_slot_reader *reader,
     struct trdp_slot_usage *usage)
@@ -1053,7 +1053,7 @@ static inline bool trdp_slot_address(const char *text, uint32_t *address)
     return true;
 }
 
-/* Writes an address in host order as text, with a zero behind it. Answers the text. */
+/* Writes an address in host order as text, with a zero after it. Answers the text. */
 static inline char *trdp_slot_address_text(uint32_t address, char text[TRDP_SLOT_ADDRESS_TEXT])
 {
     char room[TRDP_SLOT_ADDRESS_TEXT];
@@ -1117,7 +1117,7 @@ static inline void trdp_slot_drop_kept(struct trdp_slot *slot)
     slot->kept_length = 0;
 }
 
-/* Leaves a connection that has ended. What is kept of it tells of objects that are gone. */
+/* Leaves a connection that has ended. What is kept of it is about objects that are gone. */
 static inline enum trdp_slot_error trdp_slot_leave(struct trdp_slot *slot,
     enum trdp_slot_error error)
 {
@@ -1204,7 +1204,7 @@ static inline bool trdp_slot_has_line(struct trdp_slot *slot, struct trdp_slot_p
     return true;
 }
 
-/* Reads more of the connection behind the front of a line that is there. A line that fills the
+/* Reads more of the connection after the front of a line that is there. A line that fills the
  * slot's text is skipped; it can only be an indication, and is counted as lost. */
 static inline enum trdp_slot_error trdp_slot_read_more(struct trdp_slot *slot)
 {
@@ -1258,7 +1258,7 @@ static inline enum trdp_slot_error trdp_slot_take(struct trdp_slot *slot,
 }
 
 /* Says `#` where a third of the lease has passed since the latest line. Answers when it is to be
- * said next. What goes wrong with it is told by what comes. */
+ * said next. What goes wrong with it shows in what comes. */
 static inline int64_t trdp_slot_stay(struct trdp_slot *slot)
 {
     int64_t third = slot->terms.lease / 3;
@@ -1320,7 +1320,7 @@ static inline enum trdp_slot_error trdp_slot_mark_fault(const struct trdp_slot *
         : slot->mark == 1 ? TRDP_SLOT_FAULT_COUNT : TRDP_SLOT_FAULT_BAD_WORD;
 }
 
-/* Takes the answer to a mark. Answers whether it is that to the latest one, behind which no answer
+/* Takes the answer to a mark. Answers whether it is that to the latest one, after which no answer
  * to a line before it comes. */
 static inline bool trdp_slot_takes_mark(struct trdp_slot *slot, enum trdp_slot_error fault)
 {
@@ -1370,7 +1370,7 @@ static inline enum trdp_slot_error trdp_slot_drain(struct trdp_slot *slot)
     return TRDP_SLOT_OK;
 }
 
-/* Sends a datagram. Where the system tells that a line before found nobody, tries once more. */
+/* Sends a datagram. Where the system says that a line before found no one, tries once more. */
 static inline enum trdp_slot_error trdp_slot_send_datagram(struct trdp_slot *slot,
     const char *bytes, size_t length)
 {
@@ -1386,7 +1386,7 @@ static inline enum trdp_slot_error trdp_slot_send_datagram(struct trdp_slot *slo
 
 /* Sends all of these bytes by that moment. Where the connection has ended, what was said before is
  * heard first: `busy` may be there. TIMEOUT where none of them went out; where some did, the rest
- * would be wanting for ever, so that the connection is ended. */
+ * would be missing for ever, so that the connection is ended. */
 static inline enum trdp_slot_error trdp_slot_send_bytes(struct trdp_slot *slot, const char *bytes,
     size_t length, int64_t until)
 {
@@ -1410,7 +1410,7 @@ static inline enum trdp_slot_error trdp_slot_send_bytes(struct trdp_slot *slot, 
     return TRDP_SLOT_OK;
 }
 
-/* Sends a line, behind which there is room for its end. */
+/* Sends a line, after which there is room for its end. */
 static inline enum trdp_slot_error trdp_slot_send(struct trdp_slot *slot, char *line,
     size_t length, int64_t until)
 {
@@ -1474,13 +1474,13 @@ static inline enum trdp_slot_error trdp_slot_connect_port(struct trdp_slot *slot
     if (slot->socket < 0)
         return TRDP_SLOT_SYSTEM;
 #ifdef SO_RXQ_OVFL
-    int on = 1; /* where the system can't, it tells of nothing that it drops */
+    int on = 1; /* where the system can't, it reports nothing that it drops */
     (void)setsockopt(slot->socket, SOL_SOCKET, SO_RXQ_OVFL, &on, sizeof on);
 #endif
     return TRDP_SLOT_OK;
 }
 
-/* Connects to the control socket. NOBODY where nobody listens there, or it isn't there (yet);
+/* Connects to the control socket. NOBODY where no one listens there, or it isn't there (yet);
  * TIMEOUT where those who wait to be connected are too many. */
 static inline enum trdp_slot_error trdp_slot_connect_path(struct trdp_slot *slot)
 {
@@ -1528,7 +1528,7 @@ static inline enum trdp_slot_error trdp_slot_connect_by(struct trdp_slot *slot, 
 }
 
 /* Closes the socket; errno stays. What the slot has made over UDP stays in the daemon, and so do
- * its handles, which nobody lists: an application that leaves for good ends its objects before. At
+ * its handles, which no one lists: an application that leaves for good ends its objects before. At
  * a control socket they are gone with the connection, unless another process has it too: a child
  * of `fork` closes its copy by this call, and the parent's connection stays. */
 static inline void trdp_slot_close(struct trdp_slot *slot)
@@ -1541,7 +1541,7 @@ static inline void trdp_slot_close(struct trdp_slot *slot)
     errno = reason;
 }
 
-/* A slot that isn't open, of these terms; whether they can be meant. */
+/* A slot that isn't open, of these terms; whether they are in range. */
 static inline bool trdp_slot_begins(struct trdp_slot *slot, const struct trdp_slot_terms *terms)
 {
     memset(slot, 0, sizeof *slot);
@@ -1553,7 +1553,7 @@ static inline bool trdp_slot_begins(struct trdp_slot *slot, const struct trdp_sl
 }
 
 /* Opens a slot: connects a socket to its control port, and has its indications come here from now
- * on. It waits for nothing, and doesn't know whether a daemon is there: the first call tells.
+ * on. It waits for nothing, and doesn't know whether a daemon is there: the first call shows it.
  * Errors: ARGUMENT where a buffer is missing or too small, or `timeout`, `tries` or `port` is 0;
  * SYSTEM. */
 static inline enum trdp_slot_error trdp_slot_open(struct trdp_slot *slot,
@@ -1567,12 +1567,12 @@ static inline enum trdp_slot_error trdp_slot_open(struct trdp_slot *slot,
     return error;
 }
 
-/* Opens a slot at a control socket: connects to its path, as "/run/trdpd/18000", and is the
+/* Opens a slot at a control socket: connects to its path, such as "/run/trdpd/18000", and is the
  * application from then on. It waits for no answer.
  * Errors: ARGUMENT where a buffer is missing or too small, `timeout` or `tries` is 0, or the path
- * is empty or longer than 107 bytes; the slot isn't open then. NOBODY where nobody listens there;
+ * is empty or longer than 107 bytes; the slot isn't open then. NOBODY where no one listens there;
  * SYSTEM, as with EACCES where this user may not connect; BUSY where another application lives
- * there, if the daemon has said so already, and else the first call tells. Then the slot is open
+ * there, if the daemon has said so already, and else the first call shows it. Then the slot is open
  * all the same, and each call tries again to connect, until it is closed. */
 static inline enum trdp_slot_error trdp_slot_open_path(struct trdp_slot *slot, const char *path,
     const struct trdp_slot_terms *terms)
@@ -1718,7 +1718,7 @@ static inline enum trdp_slot_error trdp_slot_ask(struct trdp_slot *slot,
         error = trdp_slot_hear(slot, wanted, until, said, piece);
         slot->is_unsure = slot->is_unsure || error == TRDP_SLOT_TIMEOUT;
     } while (error == TRDP_SLOT_TIMEOUT && slot->tried < trdp_slot_tries(slot));
-    /* Nobody may be there now who took an earlier try. */
+    /* No one may be there now who took an earlier try. */
     return error == TRDP_SLOT_NOBODY && slot->tried > 1 ? TRDP_SLOT_TIMEOUT : error;
 }
 
@@ -1731,7 +1731,7 @@ static inline enum trdp_slot_error trdp_slot_call(struct trdp_slot *slot,
     return trdp_slot_ask(slot, line, wanted, said, &piece);
 }
 
-/* A line that begins with that word, in the slot's room; its end fits in behind it. */
+/* A line that begins with that word, in the slot's room; its end fits in after it. */
 static inline struct trdp_slot_writer trdp_slot_line(struct trdp_slot *slot, const char *word)
 {
     size_t most = trdp_slot_has_path(slot) ? TRDP_SLOT_LINE : TRDP_SLOT_DATAGRAM;
@@ -1926,7 +1926,7 @@ static inline enum trdp_slot_error trdp_slot_notify(struct trdp_slot *slot,
 }
 
 /* Sends a request, and makes the caller that waits for its answers, whose handle comes. `replied`
- * tells of each answer, `closed` that it is over. A second try is refused SESSION_OPEN where the
+ * reports each answer, `closed` that it is over. A second try is refused SESSION_OPEN where the
  * first one took effect: the handle then comes with `replied` and `closed`.
  * Refusals: STATE, TIMEOUT, EXPECTED, TOO_LONG, SESSION_OPEN, QUOTA, EXHAUSTED, RETRIES. */
 static inline enum trdp_slot_error trdp_slot_request(struct trdp_slot *slot,
@@ -1962,7 +1962,7 @@ static inline enum trdp_slot_error trdp_slot_reply(struct trdp_slot *slot, uint3
 }
 
 /* Sends a reply that is to be confirmed, and lets the replier wait for that: `time` in
- * microseconds, 1000 or more; `confirmed` or `closed` tells how it ends. A second try may be
+ * microseconds, 1000 or more; `confirmed` or `closed` says how it ends. A second try may be
  * refused STATE. Refusals: NO_HANDLE, WRONG_KIND, STATE, TIMEOUT, STATUS, TOO_LONG. */
 static inline enum trdp_slot_error trdp_slot_query(struct trdp_slot *slot, uint32_t handle,
     uint32_t com_id, int32_t status, uint32_t time, const uint8_t *payload, size_t length)
@@ -2008,11 +2008,11 @@ static inline enum trdp_slot_error trdp_slot_abort(struct trdp_slot *slot, uint3
     return trdp_slot_do_handle(slot, "abort", handle);
 }
 
-/* Has the slot begin anew: all its objects end at once, those of an earlier program too, and no
- * handle is given out again. The network isn't told. A program that makes objects calls it first;
+/* Resets the slot: all its objects end at once, those of an earlier program too, and no handle is
+ * given out again. Nothing is sent to the network. A program that makes objects calls it first;
  * one that only looks doesn't. It is never refused, and a second try does no harm.
  *
- * A mark goes behind each try. OK says that the mark behind the latest one was answered, so that
+ * A mark goes after each try. OK says that the mark after the latest one was answered, so that
  * none is under way that would end what is made from then on. Behind TIMEOUT every later call first
  * has a mark answered. */
 static inline enum trdp_slot_error trdp_slot_reset(struct trdp_slot *slot)
@@ -2067,7 +2067,7 @@ static inline enum trdp_slot_error trdp_slot_operate(struct trdp_slot *slot,
     return trdp_slot_call(slot, line, TRDP_SLOT_FORM_OK, &said);
 }
 
-/* The train's network has these topology counts from now on. A second try does no harm. */
+/* The train's network has these topology counters from now on. A second try does no harm. */
 static inline enum trdp_slot_error trdp_slot_topology(struct trdp_slot *slot, uint32_t etb,
     uint32_t op_trn)
 {
@@ -2088,7 +2088,7 @@ static inline enum trdp_slot_error trdp_slot_role(struct trdp_slot *slot, uint8_
     return trdp_slot_operate(slot, &line);
 }
 
-/* Opens the next slot, for so many objects of each kind, 0 to 256. A second try may open a second
+/* Opens the next slot, for that many objects of each kind, 0 to 256. A second try may open a second
  * one. Errors: NODE_SLOTS_FULL; FAULT_BAD_WORD for more than 256. */
 static inline enum trdp_slot_error trdp_slot_addslot(struct trdp_slot *slot,
     const struct trdp_slot_kinds *quotas)
@@ -2115,7 +2115,7 @@ static inline enum trdp_slot_error trdp_slot_totals(struct trdp_slot *slot,
     return error;
 }
 
-/* Takes the lines of slots in a text behind those that are there. */
+/* Takes the lines of slots in a text after those that are there. */
 static inline void trdp_slot_take_usages(const struct trdp_slot_piece *piece,
     struct trdp_slot_usage *usages, size_t room, size_t *count)
 {
@@ -2130,7 +2130,7 @@ static inline void trdp_slot_take_usages(const struct trdp_slot_piece *piece,
     }
 }
 
-/* Takes the lines of slots of a connection, which end with the answer to a mark behind them. */
+/* Takes the lines of slots of a connection, which end with the answer to a mark after them. */
 static inline enum trdp_slot_error trdp_slot_hear_usages(struct trdp_slot *slot,
     struct trdp_slot_usage *usages, size_t room, size_t *count)
 {
@@ -2156,8 +2156,8 @@ static inline enum trdp_slot_error trdp_slot_hear_usages(struct trdp_slot *slot,
 }
 
 /* What each slot has and may have at most, slots rising: as many as there are come to `count`, and
- * the first of them to `usages`, which has room for so many; TRDP_SLOT_SLOTS is always enough. CUT
- * where they are more. It changes nothing, so that this is how one looks at a daemon whose
+ * the first of them to `usages`, which has room for that many; TRDP_SLOT_SLOTS is always enough.
+ * CUT where they are more. It changes nothing, so that this is how one looks at a daemon whose
  * applications are at control sockets. */
 static inline enum trdp_slot_error trdp_slot_slots(struct trdp_slot *slot,
     struct trdp_slot_usage *usages, size_t room, size_t *count)
@@ -2202,7 +2202,7 @@ static inline enum trdp_slot_error trdp_slot_tell_kept(struct trdp_slot *slot,
     return error;
 }
 
-/* Tells how many indications were lost, and begins to count anew. */
+/* Reports how many indications were lost, and counts from 0 again. */
 static inline enum trdp_slot_error trdp_slot_tell_lost(struct trdp_slot *slot,
     struct trdp_slot_indication *told)
 {
@@ -2215,12 +2215,12 @@ static inline enum trdp_slot_error trdp_slot_tell_lost(struct trdp_slot *slot,
 /* Takes the next indication: one that was kept, or the first that comes within `wait`
  * milliseconds, 0 to look only. Its payload comes to `bytes`, which has so much room.
  *
- * CUT where the payload is longer: all else is told, `length` is that of the whole payload, and
+ * CUT where the payload is longer: all else is there, `length` is that of the whole payload, and
  * its first bytes are there; the rest is gone. LOST where texts were lost: `lost` says how many,
- * and there may be answers among them. What this header or the system dropped is told before those
- * that are kept; what the daemon dropped at a control socket, in its place. TIMEOUT where none
- * came; NOBODY where the latest line found nobody at the control port; SYSTEM; ARGUMENT for a slot
- * that isn't open.
+ * and there may be answers among them. What this header or the system dropped is reported before
+ * those that are kept; what the daemon dropped at a control socket, in its place. TIMEOUT where
+ * none came; NOBODY where the latest line found no one at the control port; SYSTEM; ARGUMENT for a
+ * slot that isn't open.
  *
  * At a control socket RESTARTED where the connection has ended. The next call of this connects
  * again within its wait, without one at most once in TRDP_SLOT_PAUSE milliseconds, and answers
@@ -2320,7 +2320,7 @@ struct trdp_slot_dataset;
 /* An element of a dataset, and the member that holds it. The macros below make one. */
 struct trdp_slot_element {
     enum trdp_slot_type type;
-    uint32_t size; /* 1: one; more: an array of so many; 0: of as many as the one before says */
+    uint32_t size; /* 1: one; more: an array of that many; 0: of as many as the one before says */
     size_t offset; /* of the member in its struct */
     size_t item;   /* the bytes of an item of the member */
     size_t room;   /* how many items the member has room for */
@@ -2396,7 +2396,7 @@ static inline size_t trdp_slot_item(const struct trdp_slot_element *element)
         : element->dataset != NULL ? element->dataset->size : 0;
 }
 
-/* Whether an element counts the array behind it. */
+/* Whether an element counts the array after it. */
 static inline bool trdp_slot_counts_array(const struct trdp_slot_element *element)
 {
     return element->size == 1 && (element->type == TRDP_SLOT_UINT8
@@ -2424,7 +2424,7 @@ static inline bool trdp_slot_is_dataset(const struct trdp_slot_dataset *dataset,
     return true;
 }
 
-/* The number that is in a member of so many bytes. */
+/* The number that is in a member of that many bytes. */
 static inline uint64_t trdp_slot_load(const uint8_t *member, size_t width)
 {
     uint16_t two;
@@ -2445,7 +2445,7 @@ static inline uint64_t trdp_slot_load(const uint8_t *member, size_t width)
     }
 }
 
-/* Puts a number into a member of so many bytes. */
+/* Puts a number into a member of that many bytes. */
 static inline void trdp_slot_store(uint8_t *member, size_t width, uint64_t number)
 {
     uint16_t two = (uint16_t)number;
@@ -2501,7 +2501,7 @@ static inline void trdp_slot_pack_item(struct trdp_slot_packer *packer, enum trd
     }
 }
 
-/* Appends a value. Answers whether each counted array has room for so many items. */
+/* Appends a value. Answers whether each counted array has room for that many items. */
 static inline bool trdp_slot_pack_value(struct trdp_slot_packer *packer,
     const struct trdp_slot_dataset *dataset, const uint8_t *value)
 {

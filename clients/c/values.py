@@ -3,7 +3,7 @@
 
     clients/c/values.py PROGRAM [COUNT]
 
-PROGRAM is test_values.c, compiled. So many datasets are drawn, 2000 by default, each with a value, whose bytes have to
+PROGRAM is test_values.c, compiled. COUNT datasets are drawn, 2000 by default, each with a value, whose bytes have to
 be the same in both languages, as has to be the value of the bytes; and other bytes near them, which have to be a value
 in both or in none. What is drawn depends on TRDP_SEED in the environment, which is printed. Prints
 `values: N passed, M failed`, and ends with status 1 where something differs.

@@ -1,8 +1,10 @@
 """What pyproject.toml can't say: the version, which is the program's, and that each module becomes a package.
 
-A module of one file can't tell mypy that it has types, as a package can, by a file py.typed in it (PEP 561). So in the
-wheel each module is the package of one file that has its name. `import trdp_slot` is the same, and in this folder the
-modules are files that can be copied.
+A module of one file can't declare to mypy that it has types, as a package can, by a file py.typed in it (PEP 561). So
+in the wheel each module is the package of one file that has its name. `import trdp_slot` is the same, and in this
+folder the modules are files that can be copied.
+
+The version is read here, and not by package/version.py, so that a wheel needs this folder and the program's one file.
 """
 from __future__ import annotations
 

@@ -1,4 +1,4 @@
-"""A client whose slot begins anew: behind an application that was killed, a daemon that was started again, a lease; and
+"""A client whose slot restarts: after an application that was killed, a daemon that was started again, a lease; and
 while it makes its objects again."""
 from __future__ import annotations
 
@@ -26,7 +26,7 @@ WHOLE = Kinds(2, 1, 1, 1, 0, 0)
 
 
 class Successors(test_ends.Ends):
-    """Wherever an application was killed, a client that comes behind it has the whole slot, and no value of before is
+    """Wherever an application was killed, a client that comes after it has the whole slot, and no earlier value is
     seen beside its own."""
 
     def test_at_a_port_without_a_lease(self) -> None:
@@ -59,14 +59,14 @@ class Successors(test_ends.Ends):
         self.are_seen(display, clients, ends)
 
     def succeeds(self, slot: int, lease: float) -> Slot:
-        """The client that comes behind the application of a slot."""
+        """The client that comes after the application of a slot."""
         words: dict[str, Any] = {"answer_us": ANSWER_US, "lease_us": int(lease * SECOND) or None}
         client = Slot(self.folder if self.is_at_paths else HOME, CONTROL + slot, **words)
         self.addCleanup(client.close)
         return client
 
     def are_seen(self, display: Display, clients: list[Slot], ends: list[test_ends.End]) -> None:
-        """From the first look on that shows a client's value none shows another one. It is told nothing of before."""
+        """From the first look on that shows a client's value none shows another one. It gets nothing from before."""
         seen: list[list[tuple[bytes, int, bytes]]] = [[] for _ in ends]
 
         def is_enough() -> bool:
@@ -225,7 +225,7 @@ class AnewAtPorts(Anew):
 
 
 class Loses(Relay):
-    """A network that loses one answer, by its number, behind the moment at which that is said."""
+    """A network that loses one answer, by its number, after the moment at which that is said."""
 
     lost_one: int | None = None
     answers = 0  # that came to it
@@ -248,7 +248,7 @@ class Restores(Makers):
     STEPS = 2 * (1 + 1 + 5 + 1)
 
     def through(self, **words: Any) -> tuple[Slot, Loses]:
-        """A client behind a network."""
+        """A client with a network before it."""
         relay = Loses(FRONT, (HOME, CONTROL), 1, lost=1, doubled=1, both_ways=False)
         self.addCleanup(relay.close)
         slot = Slot(FRONT, relay.number, restore=True, **words)
@@ -289,7 +289,7 @@ class Restores(Makers):
         os.kill(self.started.process.pid, signal.SIGSTOP)
         self.assertRaises(NoAnswer, slot.publish, 100, f"{DEVICE}:{PD}")
         os.kill(self.started.process.pid, signal.SIGCONT)
-        # Of each try the answer to the reset, and to the mark behind it.
+        # Of each try the answer to the reset, and to the mark after it.
         wait_until(lambda: relay.answers == 2 * slot.tries)
         said: list[str] = []
         send = slot._send
@@ -298,7 +298,7 @@ class Restores(Makers):
             said.append(line)
             send(line)
 
-        relay.lost_one = 1  # the answer to the mark behind the first reset
+        relay.lost_one = 1  # the answer to the mark after the first reset
         with mock.patch.object(slot, "_send", note):
             slot.put(slot.publish(100, f"{DEVICE}:{PD}"), b"\x01")
         self.assertEqual([it.split()[0] for it in said if it not in ("mark", "get", "get mark", "#")],

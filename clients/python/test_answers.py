@@ -85,10 +85,18 @@ class Case(unittest.TestCase):
 class Calls(Case):
     """The lines of all calls are those of docs/SCRIPT.md."""
 
-    def test_lines(self) -> None:
+    def check_lines(self, calls: list[tuple[str, Callable[[], object], str]]) -> None:
+        """Makes each call, which has that answer, and compares the line that it sends."""
         self.say = lambda line: [MARKS[line]] if line in MARKS else [f"0 {self.told}"]
+        for told, call, line in calls:
+            with self.subTest(line):
+                self.told = told
+                call()
+                self.assertEqual(self.calls()[-1], line)
+
+    def test_lines_of_process_data(self) -> None:
         slot = self.client()
-        calls: list[tuple[str, Callable[[], object], str]] = [
+        self.check_lines([
             ("handle 1", lambda: slot.publish(100, "10.0.0.2:17224", dataset=1001, cycle_us=100_000, group=3),
              "publish 100 1001 100000 3 0 0 10.0.0.2:17224"),
             ("done", lambda: slot.put(1, bytes.fromhex("0200010002")), "put 1 0200010002"),
@@ -101,34 +109,44 @@ class Calls(Case):
              "subscribe 100 0 0.0.0.0 0.0.0.0 0.0.0.0 17 4 0 keep"),
             ("value Valid 7 0200010002", lambda: slot.get(2), "get 2"),
             ("done", lambda: slot.unsubscribe(2), "unsubscribe 2"),
-            ("handle 4", lambda: slot.openpull(100, "10.0.0.3:17224", reply_com_id=200, reply_address="10.0.0.7"),
+        ])
+
+    def test_lines_of_pulls(self) -> None:
+        slot = self.client()
+        self.check_lines([
+            ("handle 1", lambda: slot.openpull(100, "10.0.0.3:17224", reply_com_id=200, reply_address="10.0.0.7"),
              "openpull 100 200 10.0.0.7 0 0 10.0.0.3:17224"),
-            ("done", lambda: slot.pull(3), "pull 3"),
-            ("done", lambda: slot.closepull(3), "closepull 3"),
-            ("handle 5", lambda: slot.listen(300, low="10.0.0.2", high="10.0.0.4", dest="10.0.0.1", uri="car"),
+            ("done", lambda: slot.pull(1), "pull 1"),
+            ("done", lambda: slot.closepull(1), "closepull 1"),
+        ])
+
+    def test_lines_of_listeners_and_callers(self) -> None:
+        slot = self.client()
+        self.check_lines([
+            ("handle 1", lambda: slot.listen(300, low="10.0.0.2", high="10.0.0.4", dest="10.0.0.1", uri="car"),
              "listen 300 10.0.0.2 10.0.0.4 10.0.0.1 636172 0 0"),
-            ("handle 6", lambda: slot.listen(None), "listen any 0.0.0.0 0.0.0.0 0.0.0.0 - 0 0"),
-            ("done", lambda: slot.unlisten(4), "unlisten 4"),
+            ("handle 2", lambda: slot.listen(None), "listen any 0.0.0.0 0.0.0.0 0.0.0.0 - 0 0"),
+            ("done", lambda: slot.unlisten(1), "unlisten 1"),
             ("done", lambda: slot.notify(300, "10.0.0.2:17225", b"\x0d", source_uri="door", dest_uri="car"),
              "notify 300 646f6f72 636172 0 0 10.0.0.2:17225 0d"),
-            ("handle 7", lambda: slot.request(300, "10.0.0.2:17225", b"\x0d", session=uuid.UUID(int=1), expected=2,
+            ("handle 3", lambda: slot.request(300, "10.0.0.2:17225", b"\x0d", session=uuid.UUID(int=1), expected=2,
                                               time_us=1_000_000, source_uri="door", dest_uri="car"),
              "request 300 00000000-0000-0000-0000-000000000001 2 1000000 646f6f72 636172 0 0 10.0.0.2:17225 0d"),
-            ("handle 8", lambda: slot.request(300, "10.0.0.2:17225", session=uuid.UUID(int=2), expected=0, retries=2,
+            ("handle 4", lambda: slot.request(300, "10.0.0.2:17225", session=uuid.UUID(int=2), expected=0, retries=2,
                                               time_us=1000),
              "request 300 00000000-0000-0000-0000-000000000002 0 1000 - - 0 0 10.0.0.2:17225 - 2"),
+        ])
+
+    def test_lines_of_repliers_and_ends(self) -> None:
+        slot = self.client()
+        self.check_lines([
             ("done", lambda: slot.reply(4, 301, b"\x0c"), "reply 4 301 0 0c"),
             ("done", lambda: slot.query(4, 301, b"\x0c", time_us=500_000), "query 4 301 0 500000 0c"),
             ("done", lambda: slot.replyerror(4, 301, -5), "replyerror 4 301 -5"),
             ("done", lambda: slot.confirm(3, "10.0.0.3:17225"), "confirm 3 10.0.0.3:17225 0"),
             ("done", lambda: slot.abort(3), "abort 3"),
             ("done", lambda: slot.reset(), "reset"),
-        ]
-        for told, call, line in calls:
-            with self.subTest(line):
-                self.told = told
-                call()
-                self.assertEqual(self.calls()[-1], line)
+        ])
 
     def test_what_cant_stand_in_a_line_is_not_sent(self) -> None:
         slot = self.client()
@@ -160,16 +178,22 @@ class Traps(Case):
     """Arguments that can't be meant, and ports that aren't the slot's."""
 
     def free_port(self) -> int:
-        """A port that nobody has."""
+        """A port that no one has."""
         with socket.socket(socket.AF_INET, socket.SOCK_DGRAM) as free:
             free.bind((ADDRESS, 0))
             return int(free.getsockname()[1])
 
-    def test_arguments_that_cant_be_meant(self) -> None:
-        slot = self.client()
-        odd: Any = Slot, slot, Operator
-        make, it, operator = odd
-        traps: list[tuple[Callable[[], object], type[Exception], str]] = [
+    def check_traps(self, traps: list[tuple[Callable[[], object], type[Exception], str]]) -> None:
+        """Each call raises an exception of that kind, whose text has that sentence, and nothing is sent."""
+        for call, kind, text in traps:
+            with self.assertRaises(kind) as caught:
+                call()
+            self.assertIn(text, str(caught.exception))
+        self.assertEqual(self.port.lines, [])
+
+    def test_slots_that_cant_be_meant(self) -> None:
+        make: Any = Slot
+        self.check_traps([
             (lambda: make("localhost", 18000), ValueError, "'localhost' is no address as 127.0.0.1, and 18000 no slot"),
             (lambda: make("node.toml", 16), ValueError, "and 16 no slot of a configuration, 0 to 15"),
             (lambda: make("node.toml", -1), ValueError, "and -1 no slot"),
@@ -186,12 +210,22 @@ class Traps(Case):
             (lambda: make(ADDRESS, 1, answer_us=1.5), ValueError, "answer_us is 1.5"),
             (lambda: make(ADDRESS, 1, datasets="node.toml"), TypeError, "datasets is 'node.toml', and no Datasets"),
             (lambda: make(ADDRESS, 1, number=16), ValueError, "number is 16, and no whole number of 0 to 15"),
+        ])
+
+    def test_handles_that_cant_be_meant(self) -> None:
+        it: Any = self.client()
+        self.check_traps([
             (lambda: it.get(None), TypeError, "handle is None, and no Handle or number"),
             (lambda: it.put("1", b""), TypeError, "handle is '1'"),
             (lambda: it.unpublish(None), TypeError, "handle is None"),
             (lambda: it.unlisten([]), TypeError, "handle is []"),
             (lambda: it.reply(None, 1), TypeError, "handle is None"),
             (lambda: it.abort(1 << 32), ValueError, "handle is 4294967296"),
+        ])
+
+    def test_arguments_of_calls_that_cant_be_meant(self) -> None:
+        it: Any = self.client()
+        self.check_traps([
             (lambda: it.get(1, tries=0), ValueError, "tries is 0"),
             (lambda: it.get(1, tries="x"), ValueError, "tries is 'x'"),
             (lambda: it.publish("100", "10.0.0.2:1"), ValueError, "com_id is '100'"),
@@ -204,21 +238,26 @@ class Traps(Case):
             (lambda: it.notify(1, "10.0.0.2:1", [1], dataset=[]), ValueError, "dataset is []"),
             (lambda: it.request(1, "10.0.0.2:1", session="x"), ValueError, "session is 'x', and no UUID"),
             (lambda: it.request(1, "10.0.0.2:1", session=5), ValueError, "session is 5, and no UUID"),
+        ])
+
+    def test_arguments_of_indications_that_cant_be_meant(self) -> None:
+        it: Any = self.client()
+        self.check_traps([
             (lambda: it.on("Silent", print), TypeError, "kind is 'Silent'"),
             (lambda: it.on(Silent, None), TypeError, "callback is None"),
             (lambda: it.next_indication("x"), ValueError, "time_us is 'x'"),
             (lambda: it.run(-1), ValueError, "time_us is -1"),
             (lambda: it.read_line(float("nan")), ValueError, "time_us is nan"),
             (lambda: it.send_line(None), TypeError, "line is None"),
+        ])
+
+    def test_operators_that_cant_be_meant(self) -> None:
+        operator: Any = Operator
+        self.check_traps([
             (lambda: operator("localhost", 18100), ValueError, "address is 'localhost'"),
             (lambda: operator(ADDRESS, 99999), ValueError, "port is 99999"),
             (lambda: operator(ADDRESS, 1, tries=0), ValueError, "tries is 0"),
-        ]
-        for call, kind, text in traps:
-            with self.assertRaises(kind) as caught:
-                call()
-            self.assertIn(text, str(caught.exception))
-        self.assertEqual(self.port.lines, [])
+        ])
 
     def test_the_key_that_is_wrong(self) -> None:
         node, slot = '[node]\naddress = "127.0.0.1"\n', "[[slot]]\ncontrol_port = 18000\n"
@@ -578,7 +617,7 @@ class Indications(Case):
 
 
 class Restarts(Case):
-    """A daemon that was started anew."""
+    """A daemon that was started again."""
 
     def declare(self, **words: Any) -> tuple[Slot, dict[str, trdp_slot.Handle]]:
         slot = self.client(**words)
@@ -619,7 +658,7 @@ class Restarts(Case):
         slot, handles = self.declare(restore=True)
         self.node.start_anew()
         new = slot.subscribe(105)
-        # It was the first one there, and made again behind the reset and the others.
+        # It was the first one there, and made again after the reset and the others.
         self.assertEqual(new.number, max(self.node.made))
         self.assertEqual(len(self.node.made), 5)
         self.assertEqual(slot.get(handles["subscription"]).counter, handles["subscription"].number)
@@ -647,7 +686,7 @@ class Restarts(Case):
         self.assertEqual(caught.exception.name, "NoHandle")
         self.assertIsInstance(slot.next_indication(0), Restarted)
         self.assertEqual(self.node.made, {})
-        # A handle of before isn't taken for the object that has its number now.
+        # An earlier handle isn't taken for the object that has its number now.
         again = slot.subscribe(200)
         self.assertEqual(again.number, handles["publisher"].number)
         count = len(self.calls())

@@ -21,8 +21,8 @@ from trdp_telegram import Telegram
 
 # Each thread's calls, at each kind of port; how many threads.
 CALLS, THREADS = 6_250, 8
-# How many notifications come to a program that is busy for so many seconds, how many before it is seen that they were
-# taken, and how long they are.
+# How many notifications come to a program, for how many seconds it is busy, how many come before it is seen that they
+# were taken, and how long they are.
 NOTIFICATIONS, BUSY, CREDIT, PAYLOAD = 2_000, 1.0, 50, 1_000
 # In seconds: how long an event loop is kept busy at a time.
 HELD = 0.005
@@ -148,7 +148,7 @@ class Beside(Clients):
         for number in range(NOTIFICATIONS):
             device.send(Telegram("Mn", 300, payload=number.to_bytes(PAYLOAD, "big")).write())
             if number % CREDIT == CREDIT - 1:
-                # What comes behind them is heard, so that they were taken.
+                # What comes after them is heard, so that they were taken.
                 device.send(Telegram("Mn", 301).write())
                 self.assertIsInstance(fence.next_indication(5 * SECOND), Notified)
         time.sleep(max(0.0, begin + BUSY - time.monotonic()))

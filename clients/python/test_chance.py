@@ -1,6 +1,6 @@
 """Datagrams, packets and command lines by chance: the tools read each, or say in a line what is wrong.
 
-Each run draws anew, and prints the seed; TRDP_SEED=N in the environment draws the same again.
+Each run draws again, and prints the seed; TRDP_SEED=N in the environment draws the same again.
 """
 from __future__ import annotations
 
@@ -30,7 +30,7 @@ sys.path.insert(0, str(TOP / "examples/control"))
 import client  # noqa: E402
 
 DATAGRAMS, LINES, PROGRAMS = 100_000, 5_000, 50
-# How often so many lines are drawn, until each status came.
+# How often the lines are drawn, until each status came.
 ROUNDS = 10
 
 # Pieces of command lines.
@@ -196,7 +196,7 @@ class Random(Case):
 
 
 class Mute:
-    """A control port at which nobody says anything, until its user ends the program."""
+    """A control port at which no one says anything, until its user ends the program."""
 
     line_most = 65507
     is_over = is_behind = False

@@ -1,4 +1,4 @@
-"""examples/control/client.py at a control socket, which a thread of the test stands for, and where it stays."""
+"""examples/control/client.py at a control socket, which a thread of the test plays, and where it stays."""
 from __future__ import annotations
 
 import os
@@ -88,7 +88,7 @@ class Case(unittest.TestCase):
         return process
 
     def answers_typed(self, process: subprocess.Popen[str], line: str, answer: str) -> None:
-        """A line that is typed comes to this answer."""
+        """A line that is typed has this answer."""
         assert process.stdin is not None and process.stdout is not None
         process.stdin.write(line + "\n")
         process.stdin.flush()

@@ -1,4 +1,4 @@
-"""The files of control ports in a folder: who may connect, what stands in the way, and what is said of them."""
+"""The files of control ports in a folder: who may connect, what is in the way, and what is said of them."""
 from __future__ import annotations
 
 import os
@@ -27,7 +27,7 @@ needs_root = unittest.skipUnless(os.geteuid() == 0, "another user at a control s
 
 
 def run(config: str, *words: str) -> tuple[int, str, str]:
-    """The status, the output, and what stands on the error stream."""
+    """The status, the output, and what is on the error stream."""
     with tempfile.NamedTemporaryFile("w", suffix=".toml") as file:
         file.write(config)
         file.flush()
@@ -43,13 +43,13 @@ def become(user: int, group: int) -> None:
 
 
 def leave_socket(path: pathlib.Path) -> None:
-    """Leaves the file of a socket at which nobody listens."""
+    """Leaves the file of a socket at which no one listens."""
     with socket.socket(socket.AF_UNIX, socket.SOCK_STREAM) as dead:
         dead.bind(str(path))
 
 
 class Files(AtPaths):
-    """What stands at the paths."""
+    """What is at the paths."""
 
     def path(self, port: int = CONTROL) -> pathlib.Path:
         """The path of that port."""

@@ -15,7 +15,7 @@ from test_ports import DEVICE, HOME, Case, control, node, notification
 from testing import CONTROL, MD, OPERATOR, PD, Connection, Daemon, Holder, fork, wait_until
 from trdp_telegram import Telegram, read_telegram
 
-# A line has at most so many bytes with its end, and a message so many of payload.
+# The most bytes of a line with its end, and of the payload of a message.
 LINE, PAYLOAD = 140_000, 65_388
 # How many applications come one after another, and how many processes at once, with how many turns each.
 CONNECTIONS, PROCESSES, TURNS = 1000, 10, 20
@@ -82,7 +82,7 @@ class AtPaths(Case):
         self.assertEqual(connection.hear(), b"")
 
     def is_refused(self, connection: Connection) -> None:
-        """The connection is told that there is another, and ends."""
+        """The connection learns that there is another, and ends."""
         self.assertEqual(connection.hear_all(), [b"busy\n"])
 
 
@@ -143,7 +143,7 @@ class Applications(AtPaths):
         self.says(self.connects(), publish(), b"0 handle %d\n" % (PROCESSES * TURNS + 1))
 
     def take_turns(self) -> None:
-        """Is the application so many times, as soon as no other is, and has a publisher each time."""
+        """Is the application that many times, as soon as no other is, and has a publisher each time."""
         for _ in range(TURNS):
             wait_until(self.is_application, seconds=20)
 
@@ -161,6 +161,7 @@ class Applications(AtPaths):
         return text.startswith(b"0 handle ")
 
     def test_what_is_said_at_a_spare_path_waits_for_its_slot(self) -> None:
+        # rule: slot.port
         self.starts(control(0), more=f"spare_control_ports = [{CONTROL + 1}]\n")
         application = self.connects(CONTROL + 1)
         application.say(b"get 1", b"get 2")
@@ -257,7 +258,7 @@ class Lines(AtPaths):
         self.says(self.connects(), publish(), b"0 handle 3\n")
 
     def test_whole_lines_before_an_end_are_taken(self) -> None:
-        # The calls are made whose answers nobody reads, and before the successor's.
+        # The calls are made whose answers no one reads, and before the successor's.
         self.starts(control(0, "publishers = 2"))
         sink = self.socket(DEVICE)
         application, (address, port) = self.connects(), sink.getsockname()
@@ -289,7 +290,7 @@ class Lines(AtPaths):
 
 
 class Losses(AtPaths):
-    """What an application is told that doesn't read."""
+    """What an application receives that doesn't read."""
 
     def test_what_finds_no_room_is_counted_in_its_place(self) -> None:
         self.starts(control(0, "publishers = 1\nlisteners = 1"), control(1, "listeners = 1"))
@@ -303,7 +304,7 @@ class Losses(AtPaths):
         for number in range(NOTIFICATIONS):
             device.send(notification(number.to_bytes(4, "big") + bytes(996)))
             if number % CREDIT == CREDIT - 1:
-                # What comes behind them is heard, so that they were taken.
+                # What comes after them is heard, so that they were taken.
                 device.send(Telegram("Mn", 301).write())
                 self.assertIn(b"1 notified 1 ", fence.hear())
                 telegrams += arrived(sink)
@@ -329,13 +330,13 @@ class Losses(AtPaths):
         self.says(application, b"get 9", NO_HANDLE)
 
     def goes_on(self, telegrams: list[bytes], cycles: float) -> None:
-        """Of a publisher that ran for so many cycles came each telegram, and no tenth of them at the least."""
+        """Of a publisher that ran for that many cycles came each telegram, and no tenth of them at the least."""
         counters = [read_telegram(it, False).counter for it in telegrams]
         self.assertEqual(counters, list(range(counters[0], counters[0] + len(counters))))
         self.assertGreaterEqual(len(counters), cycles / 10)
 
     def are_all_told(self, application: Connection, head: bytes) -> int:
-        """The application is told of each notification by a line that begins so, or how many were lost in their place.
+        """The application receives each notification by a line that begins so, or how many were lost in their place.
         Answers how many were lost."""
         came = lost = 0
         while came + lost < NOTIFICATIONS:

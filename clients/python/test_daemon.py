@@ -42,7 +42,7 @@ repliers = 2
 control_port = {control}
 """
 
-# 1001: a count and so many numbers; 1002: with a time, and a dataset; 1500: longer than process data carries.
+# 1001: a count and that many numbers; 1002: with a time, and a dataset; 1500: longer than process data carries.
 DATASETS = """
 [[dataset]]
 id = 1001
@@ -79,7 +79,7 @@ class Case(unittest.TestCase):
         return self.client(Slot(str(daemon.path), 0, answer_us=SECOND // 2, **words))
 
     def client(self, slot: Slot) -> Slot:
-        """A client that is closed behind the test, whose daemon is there."""
+        """A client that is closed after the test, whose daemon is there."""
         self.addCleanup(slot.close)
         slot.sync()
         return slot
@@ -133,6 +133,7 @@ class ProcessData(Case):
         self.assertEqual(self.told(self.desk, Alive), Alive(zero))
 
     def test_before_the_first_telegram_the_value_is_zero(self) -> None:
+        # rule: subscription.first dataset.zero
         self.assertEqual(self.desk.get(self.desk.subscribe(100, dataset=1002)), ("Never", 0, [0, (0, 0), [0, []]]))
         self.assertEqual(self.desk.get(self.desk.subscribe(100)), ("Never", 0, b""))
 
@@ -153,6 +154,7 @@ class ProcessData(Case):
         self.refused("NoHandle", self.desk.pull, requester)
 
     def test_a_follower_is_silent(self) -> None:
+        # rule: publisher.send
         publisher = self.door.publish(100, f"{DESK}:{PD}", cycle_us=1000, group=3)
         self.door.put(publisher, b"\x01")
         subscription = self.desk.subscribe(100, time_us=100_000)
@@ -238,26 +240,31 @@ class MessageData(Case):
         self.closed(self.desk, caller, "Done")
 
     def test_no_reply(self) -> None:
+        # rule: caller.reason
         self.closed(self.desk, self.desk.request(300, f"{DOOR}:{MD}", time_us=20_000), "NoReply")
 
     def test_reply_missed(self) -> None:
+        # rule: replier.reason
         caller, asked = self.ask(time_us=40_000)
         self.closed(self.door, asked.replier, "ReplyMissed")
         self.closed(self.desk, caller, "NoReply")
 
     def test_not_all_replies(self) -> None:
+        # rule: caller.reason
         caller, asked = self.ask(time_us=300_000, expected=2)
         self.door.reply(asked.replier, 301)
         self.told(self.desk, Replied)
         self.closed(self.desk, caller, "NotAllReplies")
 
     def test_whoever_answers(self) -> None:
+        # rule: caller.complete
         caller, asked = self.ask(time_us=300_000, expected=0)
         self.door.reply(asked.replier, 301)
         self.told(self.desk, Replied)
         self.closed(self.desk, caller, "Done")
 
     def test_not_confirmed(self) -> None:
+        # rule: caller.reason
         caller, asked = self.ask(time_us=400_000)
         self.door.query(asked.replier, 301, time_us=100_000)
         self.assertEqual(self.told(self.desk, Replied).kind, "Mq")
@@ -265,6 +272,7 @@ class MessageData(Case):
         self.closed(self.desk, caller, "NotConfirmed")
 
     def test_overrun(self) -> None:
+        # rule: replier.overrun
         listener = self.door.listen(300)
         for _ in range(3):
             self.desk.request(300, f"{DOOR}:{MD}", time_us=2 * SECOND)
@@ -273,6 +281,7 @@ class MessageData(Case):
         self.assertEqual(self.told(self.door, Overrun), Overrun(listener))
 
     def test_abort(self) -> None:
+        # rule: session.abort
         caller, asked = self.ask()
         self.desk.abort(caller)
         self.refused("NoHandle", self.desk.abort, caller)
@@ -280,6 +289,7 @@ class MessageData(Case):
         self.refused("NoHandle", self.door.reply, asked.replier, 301)
 
     def test_retries(self) -> None:
+        # rule: caller.repeat message.counter
         with socket.socket(socket.AF_INET, socket.SOCK_DGRAM) as sink:
             sink.bind((SINK, MD))
             sink.settimeout(2)
@@ -294,6 +304,7 @@ class Refusals(Case):
     """Each refusal of docs/SCRIPT.md that a datagram can bring about."""
 
     def test_each(self) -> None:
+        # rule: out.refusal
         slot, place = self.door, f"{DESK}:{PD}"
         publisher = slot.publish(100, place, dataset=1001)
         plain = slot.publish(100, place)
@@ -335,6 +346,7 @@ class Refusals(Case):
                 self.refused(name, call, *words)
 
     def test_quotas(self) -> None:
+        # rule: slot.share
         slot, place = self.door, f"{SINK}:{PD}"
         quotas: list[tuple[int, Callable[[], object]]] = [
             (4, lambda: slot.publish(1, place)), (4, lambda: slot.subscribe(1)), (2, lambda: slot.openpull(1, place)),
@@ -350,6 +362,7 @@ class Slots(Case):
     """Slots that are added."""
 
     def test_a_slot_is_added(self) -> None:
+        # rule: slot.added slot.opened
         operator = Operator(DOOR, OPERATOR, answer_us=SECOND)
         operator.addslot(publishers=1)
         late = self.client(Slot(str(self.daemons[0].path), 1, answer_us=SECOND // 2))
@@ -363,6 +376,7 @@ class Slots(Case):
         self.refused("SlotsFull", operator.addslot)
 
     def test_a_slot_begins_anew(self) -> None:
+        # rule: slot.reset
         subscription = self.desk.subscribe(100, time_us=100_000)
         self.assertEqual(self.told(self.desk, Silent), Silent(subscription))
         before = [self.door.publish(100, f"{DESK}:{PD}", cycle_us=10_000) for _ in range(4)]
@@ -376,6 +390,7 @@ class Slots(Case):
         self.assertEqual(self.desk.get(subscription).state, "Silent")
 
     def test_what_an_operator_is_told(self) -> None:
+        # rule: control.question
         operator = Operator(DOOR, OPERATOR, answer_us=SECOND)
         self.door.listen(300)
         self.door.publish(100, f"{DESK}:{PD}")
@@ -581,7 +596,7 @@ class Maker:
         self.depths: dict[int, int] = {}
 
     def make(self, count: int) -> None:
-        """Makes so many datasets, which nest up to five deep."""
+        """Makes that many datasets, which nest up to five deep."""
         while len(self.elements) < count:
             number = self.chance.choice([self.chance.randrange(31, 1000), self.chance.randrange(31, 1 << 32)])
             if number not in self.elements:

@@ -41,14 +41,14 @@ def pull_request() -> bytes:
 
 
 def request(size: int) -> bytes:
-    """An `Mr` of comId 300 with a dataset of zeros, of so many bytes in all."""
+    """An `Mr` of comId 300 with a dataset of zeros, of that many bytes in all."""
     session = bytes(15) + b"\x01"
     head = struct.pack(">IHHIIIIi16sI", 0, 0x100, 0x4D72, 300, 0, 0, size - 116, 0, session, 0).ljust(112, b"\0")
     return head + struct.pack("<I", zlib.crc32(head)) + bytes(size - 116)
 
 
 def is_free(place: tuple[str, int]) -> bool:
-    """Whether nobody has that UDP port."""
+    """Whether no one has that UDP port."""
     with socket.socket(socket.AF_INET, socket.SOCK_DGRAM) as probe:
         try:
             probe.bind(place)
@@ -83,7 +83,7 @@ class Edge(Case):
     """Each of the system's calls over loopback."""
 
     def settle(self, operator: socket.socket) -> None:
-        """Waits until what was sent to a control port is taken: in each turn its place is behind the operator's."""
+        """Waits until what was sent to a control port is taken: in each turn its place is after the operator's."""
         for _ in range(2):
             self.answers(operator, b"role 9 leader", b"ok\n")
 
@@ -95,6 +95,7 @@ class Edge(Case):
         self.assertEqual(taken, [(HOME, PD), (HOME, MD), (KEPT, OPERATOR), (KEPT, CONTROL), (KEPT, CONTROL + 1)])
 
     def test_bind_takes_each_spare_port(self) -> None:
+        # rule: slot.port
         spares = range(CONTROL + 1, CONTROL + 16)
         self.daemon(node(control(0), more=f"spare_control_ports = {list(spares)}\n"))
         operator = self.client(OPERATOR)

@@ -1,4 +1,4 @@
-"""Applications that end, hang or fall silent: their slot begins anew, and nobody is told their values any more."""
+"""Applications that end, hang or fall silent: their slot is reset, and no one receives their values any more."""
 from __future__ import annotations
 
 import itertools
@@ -21,7 +21,7 @@ from trdp_telegram import Telegram
 QUOTAS = "publishers = 2\nlisteners = 1\ncallers = 1\nrepliers = 1"
 # Each application publishes what begins with OLD, and its successor NEW.
 OLD, NEW = b"aa", b"bb00"
-# Seconds: the supervision of the display; how long something may still be sent behind an end and a lease; for how long
+# Seconds: the supervision of the display; how long something may still be sent after an end and a lease; for how long
 # it is seen then that nothing is, in which a request would be sent again, and a session closed; the lease.
 SUPERVISION, AFTER, SEEN, LEASE = 1.0, 1.0, 1.8, 1
 SESSION_US = 2_500_000
@@ -51,7 +51,7 @@ Speaker = Connection | Datagrams
 
 
 class Display:
-    """An application that shows others' values, and keeps what it is told of them."""
+    """An application that shows others' values, and keeps what it receives of them."""
 
     def __init__(self, speaker: Speaker, com_ids: range) -> None:
         self.speaker = speaker
@@ -62,7 +62,7 @@ class Display:
             assert b" handle " in speaker.hear()
 
     def looks(self, handle: int, times: int = 1) -> list[tuple[bytes, int, bytes]]:
-        """So many times the state, the counter and the value that a subscription shows."""
+        """That many times the state, the counter and the value that a subscription shows."""
         self.speaker.say(*[b"get %d" % handle] * times)
         shown: list[tuple[bytes, int, bytes]] = []
         while len(shown) < times:
@@ -80,7 +80,7 @@ class Spoken(AtPaths):
     is_at_paths = True
 
     def speaks(self, slot: int) -> Speaker:
-        """Whoever speaks for a slot from now on."""
+        """The application that speaks for a slot from now on."""
         return self.connects(CONTROL + slot) if self.is_at_paths else Datagrams(self.client(CONTROL + slot))
 
     def calls(self, speaker: Speaker, slot: int, *calls: tuple[str | bytes, str]) -> None:
@@ -168,9 +168,11 @@ class Ends(Spoken):
         self.calls(speaker, slot, (f"query 4 301 0 {SESSION_US} 0c", "done"))
 
     def test_at_a_path(self) -> None:
+        # rule: slot.end slot.reset
         self.ends(ENDS, 0, "--controls", self.folder)
 
     def test_at_a_port_under_a_lease(self) -> None:
+        # rule: slot.silence slot.reset
         self.is_at_paths = False
         self.ends([it for it in ENDS if it.is_at_ports], LEASE, "--lease", str(LEASE))
 
@@ -223,7 +225,7 @@ class Ends(Spoken):
                 self.assertEqual(came, [])
 
     def are_followed(self, display: Display, ends: list[End]) -> None:
-        """The successors have all that they may have, and are told nothing of before. From the first look on that shows
+        """The successors have all that they may have, and get nothing from before. From the first look on that shows
         one's value none shows another."""
         speakers = [self.speaks(it) for it in range(len(ends))]
         for slot, end in enumerate(ends):
@@ -264,6 +266,7 @@ class Counts(AtPaths):
     """What an end counts for."""
 
     def test_an_end_is_taken_and_told_to_nobody(self) -> None:
+        # rule: slot.end
         self.starts(control(0, QUOTAS))
         operator, application = self.connects(OPERATOR), self.connects()
         for line, answer in [(publish(), b"0 handle 1\n"), (b"reset", b"0 done\n")]:
@@ -294,7 +297,7 @@ ENDS = [
 
 
 class Leases(Spoken):
-    """A slot begins anew behind the silence of its application, and not before: at a path, and at a UDP port."""
+    """A slot is reset after the silence of its application, and not before: at a path, and at a UDP port."""
 
     # Seconds: of a publisher; between two lines of an application, so long that each of them has to count, and for how
     # long it says them; for how long a daemon is stopped.
@@ -309,7 +312,7 @@ class Leases(Spoken):
                         self.daemon(text.replace(HOME, KEPT), *lease)]
 
     def both(self, port: int = CONTROL) -> list[Speaker]:
-        """Whoever speaks at that port from now on, of each daemon."""
+        """The application that speaks at that port from now on, of each daemon."""
         return [self.connects(port), Datagrams(self.client(port, KEPT))]
 
     def publishes(self, speaker: Speaker, slot: int, number: int, place: tuple[str, int], cycle: float = CYCLE) -> None:
@@ -326,9 +329,10 @@ class Leases(Spoken):
         return text.splitlines()[slot].split()[1] == b"0/1"
 
     def test_one_that_hangs_is_over_behind_the_lease(self) -> None:
+        # rule: slot.lease
         for application, operator in zip(self.both(), self.both(OPERATOR)):
             sink = self.socket(DEVICE)
-            # The turn that takes the last line begins behind the one that takes the line before, and so behind this.
+            # The turn that takes the last line begins after the one that takes the line before, and so after this.
             begin = latest = time.monotonic()
             self.publishes(application, 0, 1, sink.getsockname())
             application.say(b"#")

@@ -13,7 +13,7 @@ import unittest
 
 from testing import TOP
 
-# Numbers that stand for the users, who need not exist.
+# Numbers of the users, who need not exist.
 USERS = {"trdpd": 61001, "doors": 61002, "diagnosis": 61003, "supervisor": 61004}
 OTHER = 61005
 HOME = "127.0.0.1"
@@ -57,7 +57,7 @@ def socket_of(user: int) -> socket.socket:
 
 
 def exchange(port: int, server: int, client: int) -> str:
-    """What comes of a line of a user to a port that another one has."""
+    """What results from a line of a user to a port that another one has."""
     with socket_of(server) as node, socket_of(client) as application:
         node.bind((HOME, port))
         application.connect((HOME, port))

@@ -1,4 +1,4 @@
-"""What comes to the groups of a daemon's node: process and message data, told apart by where they went."""
+"""What comes to the groups of a daemon's node: process and message data, distinguished by where they went."""
 from __future__ import annotations
 
 import socket
@@ -56,7 +56,7 @@ class Groups(Case):
             self.out.sendto(Telegram("Pd", 100, counter=count, payload=payload).write(), (place, PD))
         testing.wait_until(lambda: self.shows(1)[0] == "Valid")
         self.assertEqual([self.shows(it)[1] for it in (1, 2, 3)], [it.hex() for it in (b"dd", b"aa", b"bb")])
-        # Nobody has joined it any more: nothing comes.
+        # No one has joined it any more: nothing comes.
         joined[0].close()
         self.out.sendto(Telegram("Pd", 100, counter=9, payload=b"ee").write(), (FIRST, PD))
         self.out.sendto(Telegram("Pd", 100, counter=9, payload=b"ff").write(), (HOME, PD))
@@ -92,7 +92,7 @@ class Groups(Case):
         self.assertNotEqual(self.shows(1)[0], "Valid")
 
     def hears(self) -> list[str]:
-        """The words of the next indication behind the slot's number."""
+        """The words of the next indication after the slot's number."""
         return self.application.recv(4096).decode().split()[1:]
 
 

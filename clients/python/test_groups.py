@@ -18,7 +18,7 @@ from trdp_telegram import Telegram
 
 LOCAL, SOURCE, DUMP = "127.0.0.1", "127.0.8.60", "127.0.8.61"
 FIRST, SECOND, OTHER = "239.192.8.60", "239.195.255.61", "239.192.8.62"
-# Ports that nobody has at any address, for 0.0.0.0.
+# Ports that no one has at any address, for 0.0.0.0.
 PD, MD = 18260, 18261
 PORTS = ["--pd-port", str(PD), "--md-port", str(MD)]
 JOINED = ["--group", FIRST, "--group", SECOND, "--group", FIRST]

@@ -18,7 +18,10 @@ import zipfile
 
 from testing import HERE, TOP
 
-VERSION_FILE = "crates/trdpd/src/version.rt"
+sys.path.insert(0, str(TOP / "package"))
+from version import SOURCE as VERSION_FILE  # noqa: E402
+from version import program_version  # noqa: E402
+
 MODULES = ["trdp_dump", "trdp_send", "trdp_slot", "trdp_telegram", "trdp_words"]
 MISSING = [it for it in ("pip", "setuptools", "venv", "wheel") if importlib.util.find_spec(it) is None]
 PORT_HOME = "127.0.8.23"
@@ -111,7 +114,7 @@ class Install(unittest.TestCase):
     def test_the_version_is_that_of_the_program(self) -> None:
         told = "import importlib.metadata; print(importlib.metadata.version('trdp-slot'))"
         version = run([self.bin("python"), "-c", told], self.folder).strip()
-        self.assertIn(f'VERSION: &str = "{version}";', (TOP / VERSION_FILE).read_text())
+        self.assertEqual(version, program_version())
 
     def test_without_the_version_it_is_not_built(self) -> None:
         clients = copy(self.folder / "alone")

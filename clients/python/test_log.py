@@ -1,5 +1,5 @@
-"""What becomes of a daemon whose standard output or standard error is slow, full or gone: it goes on; and what it tells
-there of losses.
+"""What becomes of a daemon whose standard output or standard error is slow, full or gone: it goes on; and what it
+reports there of losses.
 
 All tests wait side by side. What has to come within some time has a margin of ten, and is tried once.
 """
@@ -62,7 +62,7 @@ def keeps_on(number: int, daemon: Daemon) -> None:
 
 
 def by_a_full_output() -> None:
-    """Nobody reads standard output: the lines are left out, and come again when somebody does."""
+    """No one reads standard output: the lines are left out, and come again when somebody does."""
     with full_pipe() as (back, front):
         daemon = Daemon(config(61), words=("--totals", "1"), output=front)
         try:
@@ -77,7 +77,7 @@ def by_a_full_output() -> None:
 
 
 def by_a_full_error() -> None:
-    """Nobody reads standard error: not even the first words stop it."""
+    """No one reads standard error: not even the first words stop it."""
     with full_pipe() as (_, front):
         daemon = Daemon(config(62), errors=front)
         try:
@@ -120,7 +120,7 @@ def by_closed_streams() -> None:
 
 
 def by_a_stopped_terminal() -> None:
-    """Somebody typed Ctrl-S; and behind Ctrl-Q the lines come again."""
+    """Somebody typed Ctrl-S; and after Ctrl-Q the lines come again."""
     back, front = pty.openpty()
     try:
         termios.tcflow(front, termios.TCOOFF)
@@ -138,7 +138,7 @@ def by_a_stopped_terminal() -> None:
 
 
 def with_a_reason_for_losses() -> None:
-    """What the system refuses is told with its reason, at most once a second."""
+    """What the system refuses is reported with its reason, at most once a second."""
     place = "255.255.255.255:18224"
     start = time.monotonic()
     daemon = Daemon(config(67), words=("--totals", "1"))
@@ -166,7 +166,7 @@ WORKS: list[Callable[[], None]] = [
 
 
 class Log(unittest.TestCase):
-    """Each test runs from the start of all, and is told when its turn comes."""
+    """Each test runs from the start of all, and is called when its turn comes."""
 
     pool: ThreadPoolExecutor
     running: dict[Callable[[], None], Future[None]]

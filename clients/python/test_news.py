@@ -22,7 +22,7 @@ from test_edge import LISTEN, pid, pull_request
 from test_ports import DEVICE, HOME, TELEGRAM, Case, control, node, notification
 from testing import CONTROL, MD, OPERATOR, PD, SEED, Daemon, fork, wait_until
 
-# For how many seconds datagrams come out of quiet, and how many of a kind a second. Then how often a few come behind
+# For how many seconds datagrams come out of quiet, and how many of a kind a second. Then how often a few come after
 # which nothing comes, how many these are at most and how far apart, and how soon the last one is answered.
 QUIET, A_SECOND, TIMES, FEW, APART, SOON = 5.0, 200, 50, 3, 0.0001, 1.0
 # A cycle in seconds by which something is due all the while: a datagram comes now farther away from it than a
@@ -32,11 +32,12 @@ CYCLE = 0.0025
 HOMES = [f"127.0.8.{it}" for it in range(60, 65)]
 # For how many seconds it is seen that a daemon rests.
 IDLE = 1.0
-# How many calls are made beside a flood, and how many datagrams of it are taken before, and behind.
+# How many calls are made beside a flood, and how many datagrams of it are taken before, and after.
 CALLS, FLOOD = 200, 1000
-# For how many seconds a daemon of that priority is flooded, which runs for so many microseconds at most without a rest.
+# For how many seconds a daemon of that priority is flooded. Then for how many microseconds it runs at most without a
+# rest.
 AT_ONCE, PRIORITY, WITHOUT_REST = 10.0, 10, 200_000
-# Linux: one send of so many datagrams of the same size.
+# Linux: one send of many datagrams of the same size.
 SOL_UDP, UDP_SEGMENT, BATCH = 17, 103, 10
 
 
@@ -93,7 +94,7 @@ class Quiet(AtPaths):
             self.assertEqual(it.taken(), taken + sum(kind.sent for kind in it.kinds) + 1)
 
     def come(self, kinds: list[Kind]) -> None:
-        """Has datagrams of these kinds come by chance, and then of each kind a few behind which nothing comes."""
+        """Has datagrams of these kinds come by chance, and then of each kind a few after which nothing comes."""
         chance = random.Random(SEED)
         count = round(QUIET * A_SECOND)
         moments = sorted((chance.uniform(0, QUIET), number) for number in range(len(kinds)) for _ in range(count))
@@ -173,7 +174,7 @@ class NotOpen(AtPaths):
 
 def flood(place: tuple[str, int], datagram: bytes, seconds: float, tells: int | None = None) -> int:
     """Starts a process that sends a datagram to a place over and over, as fast as it can, for so long and while
-    somebody is there; then it tells at that descriptor how often. Answers its number."""
+    somebody is there; then it reports at that descriptor how often. Answers its number."""
     def send() -> None:
         sent, end = 0, time.monotonic() + seconds
         with socket.socket(socket.AF_INET, socket.SOCK_DGRAM) as out, contextlib.suppress(ConnectionRefusedError):
@@ -194,7 +195,7 @@ class Floods(Case):
 
     @contextlib.contextmanager
     def flooded(self, port: int, datagram: bytes) -> Iterator[None]:
-        """A port of the daemon is flooded meanwhile: it takes of that before, and goes on with it behind."""
+        """A port of the daemon is flooded meanwhile: it takes of that before, and goes on with it after."""
         operator = Asked(self.client(OPERATOR))
         number = flood((HOME, port), datagram, 60)
         try:
@@ -247,7 +248,7 @@ class First(Case):
         told, tells = os.pipe()
         number = flood((HOME, CONTROL), b"get 9", AT_ONCE, tells)
         os.sched_setaffinity(number, {other})
-        # Whoever else is at that processor would have the flood pause, and the daemon rest.
+        # Anything else at that processor would have the flood pause, and the daemon rest.
         os.sched_setscheduler(number, os.SCHED_FIFO, os.sched_param(1))
         os.close(tells)
         answered = 0
@@ -262,7 +263,7 @@ class First(Case):
         self.answers(self.client(CONTROL + 1), b"get 9", b"1 refused NoHandle\n")
 
     def processors(self) -> tuple[int, int]:
-        """A processor that nobody else here is at from now on, and one for the flood. The test has the others."""
+        """A processor that no one else here is at from now on, and one for the flood. The test has the others."""
         # The first one may have more of the system's own work.
         *others, own = sorted(os.sched_getaffinity(0))
         self.addCleanup(os.sched_setaffinity, 0, {own, *others})

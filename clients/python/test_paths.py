@@ -139,13 +139,13 @@ class BothAtPorts(Both):
         daemon.end()
         calls: list[Callable[[], object]] = [lambda: slot.get(subscription), slot.check, slot.sync, slot.reset,
                                              lambda: self.slot(answer_us=5 * SECOND, tries=1).listen(1)]
-        # Linux tells it a thousand times a second at most, to all programs together.
+        # Linux reports it a thousand times a second at most, to all programs together.
         self.assertTrue(any(self.are_told_at_once(calls) for _ in range(3)))
         daemon.start()
         self.assertRaises(Refused, slot.get, subscription)
 
     def are_told_at_once(self, calls: list[Callable[[], object]]) -> bool:
-        """Whether each call is told that nobody is there, and all together sooner than one waits for its answer."""
+        """Whether each call reports that no one is there, and all together sooner than one waits for its answer."""
         begin = time.monotonic()
         try:
             for call in calls:
@@ -257,7 +257,7 @@ class Connections(Clients):
             time.sleep(0.2)
             path.chmod(0o666)
             self.assertEqual(here.recv(1), b"3")
-            # Where nothing is to be made again, it is told at once.
+            # Where nothing is to be made again, it is raised at once.
             path.chmod(0o600)
             here.send(b"4")
             self.assertEqual(os.waitpid(child, 0)[1], 0)

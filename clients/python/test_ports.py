@@ -75,6 +75,7 @@ class Ports(Case):
     """Each port is the node's own, and is asked and answers for its slot."""
 
     def test_each_port_answers_for_its_slot(self) -> None:
+        # rule: control.line
         # The third slot has no control port.
         self.daemon(node(control(0), control(1), "", control(3)))
         for port, line, answer in [
@@ -85,6 +86,7 @@ class Ports(Case):
             self.answers(self.client(port), line, answer)
 
     def test_what_a_datagram_says_at_each_port(self) -> None:
+        # rule: control.line control.operator
         self.daemon(node(control(0)))
         unknown, count, bad_word = (f"line fault {it}\n".encode() for it in ("Unknown", "Count", "BadWord"))
         got = b"0 refused NoHandle\n"
@@ -132,7 +134,7 @@ class Telegrams(Case):
     """Telegrams come in whole, and what comes early waits."""
 
     def test_60_000_bytes_come_in_whole(self) -> None:
-        # One is told byte by byte; the other one is heard, since what is cut would be no telegram, but its text is
+        # One is compared byte by byte; the other one is heard, since what is cut would be no telegram, but its text is
         # longer than any datagram, and is lost.
         daemon = self.daemon(node(control(0, "listeners = 1")), "--totals", "1")
         client = self.client(CONTROL)
@@ -159,13 +161,13 @@ class Telegrams(Case):
 
 
 class Ends(unittest.TestCase):
-    """How a service ends, and a script whose faults nobody can be told."""
+    """How a service ends, and a script whose faults no one can receive."""
 
     NOTHING = "taken 0 offered 0 lost 0 unread 0 memory 0\n"
     ONE_PORT = f'[node]\naddress = "{HOME}"\npd_port = {PD}\nmd_port = {PD}\n[[slot]]\n'
 
     def ends(self, config: str, *words: str, **streams: Any) -> tuple[int, Any, Any]:
-        """The status, the output, and what stands on the error stream."""
+        """The status, the output, and what is on the error stream."""
         with tempfile.NamedTemporaryFile("w", suffix=".toml") as file:
             file.write(config)
             file.flush()

@@ -1,4 +1,4 @@
-"""What a daemon does by the clock: that it rests, and for how long, and how often it tells its totals.
+"""What a daemon does by the clock: that it rests, and for how long, and how often it prints its totals.
 
 Nothing may come earlier than promised, nor more of it: that is bounded so that no other work on the machine matters.
 That something comes, and in what time, has a margin, and is tried three times at most. All tests wait side by side.
@@ -100,7 +100,7 @@ def keep_a_cycle() -> None:
 
 
 def rest_while_idle() -> None:
-    """A daemon that has nothing to do takes next to no processor time, also behind a datagram."""
+    """A daemon that has nothing to do takes next to no processor time, also after a datagram."""
     daemon = started(52)
     try:
         used = []
@@ -133,7 +133,7 @@ def tell_totals_by_the_second() -> None:
 
 
 def tell_totals_once_behind_a_pause() -> None:
-    """A daemon that stood still for some seconds makes up for no line: it tells one, and a second later the next."""
+    """A daemon that stood still for some seconds makes up for no line: it prints one, and a second later the next."""
     start = time.monotonic()
     daemon = started(54, "--totals", "1")
     try:
@@ -155,7 +155,7 @@ def tell_totals_once_behind_a_pause() -> None:
 
 
 class Times(unittest.TestCase):
-    """Each test runs from the start of all, and is told when its turn comes."""
+    """Each test runs from the start of all, and is called when its turn comes."""
 
     pool: ThreadPoolExecutor
     running: dict[Callable[[], None], Future[None]]
@@ -168,6 +168,7 @@ class Times(unittest.TestCase):
         cls.running = {work: cls.pool.submit(work) for work in works}
 
     def test_a_publisher_keeps_its_cycle(self) -> None:
+        # rule: publisher.cycle
         self.running[keep_a_cycle].result()
 
     def test_an_idle_daemon_rests(self) -> None:

@@ -1,4 +1,4 @@
-"""What the tests of the clients stand on: daemons, and a network before one that loses and doubles."""
+"""What the tests of the clients use: daemons, and a network before one that loses and doubles."""
 from __future__ import annotations
 
 import ctypes
@@ -20,7 +20,7 @@ from collections.abc import Callable, Sequence
 HERE = pathlib.Path(__file__).resolve().parent
 TOP = HERE.parent.parent
 PROGRAM = os.environ.get("TRDPD") or str(TOP / "crates/trdpd/out/trdpd")
-# Addresses and ports of their own, so that the tests collide with nobody.
+# Addresses and ports of their own, so that the tests collide with no one.
 PD, MD, OPERATOR, CONTROL = 18224, 18225, 18790, 18800
 SECOND = 1_000_000
 # What tests by chance draw by, which they print: TRDP_SEED=N in the environment draws the same again.
@@ -139,7 +139,7 @@ class Daemon:
 
     def start(self) -> None:
         """Starts it, and waits until it has its ports."""
-        # What it says goes to a file: a pipe that nobody reads would fill.
+        # What it says goes to a file: a pipe that no one reads would fill.
         errors = self.path.with_suffix(".errors")
         closed = " ".join(f"{number}>&-" for number, it in enumerate(self.streams, 1) if it is None)
         with open(errors, "wb") as out:
@@ -203,7 +203,7 @@ class Connection:
             try:
                 more = self.socket.recv(1 << 18)
             except ConnectionResetError:
-                # So the system ends one that said what nobody read.
+                # So the system ends one that said what no one read.
                 more = b""
             if not more:
                 left, self.heard = self.heard, b""
@@ -323,7 +323,7 @@ class Port(threading.Thread):
 
 class Relay(threading.Thread):
     """A network between clients and a port that keeps the order, and of the answers, or of the lines too, loses one
-    in so many and brings one in so many twice."""
+    in `lost` and brings one in `doubled` twice."""
 
     def __init__(self, address: str, to: tuple[str, int], seed: int, lost: int, doubled: int, both_ways: bool) -> None:
         super().__init__(daemon=True)
@@ -353,7 +353,7 @@ class Relay(threading.Thread):
                         self.front.sendto(data, client)
 
     def back(self, client: tuple[str, int]) -> socket.socket:
-        """The socket that stands for a client."""
+        """The socket that plays a client."""
         if client not in self.backs:
             self.backs[client] = socket.socket(socket.AF_INET, socket.SOCK_DGRAM)
             self.backs[client].connect(self.to)

@@ -10,7 +10,7 @@ A line is
 
     Pd comId=2101 counter=46 counts=0,0 from=127.0.0.1:17224 length=7 value=[4, [0, 0, 0, 0], 0]
 
-Where no TOML file names the comId's dataset, or the bytes are no value of it, `data=04000000000000` stands in place
+Where no TOML file names the comId's dataset, or the bytes are no value of it, `data=04000000000000` is in place
 of the value. A pull request has `replyComId` and `replyAddress` too, a message `session`, `status`, `time` in
 microseconds and `uris`, source and destination. A datagram that is no telegram is `fault=Fcs from=.. length=..`, by
 the names of its first fault: Short, TooLong, Fcs, Version, Kind, Length.
@@ -27,9 +27,9 @@ Each group is joined at the interface of the address, or at the one that is name
 by another interface isn't shown. The line of a datagram to a group is as the others; in the file for Wireshark the
 group is its destination.
 
-The ports are bound, so nobody else may have them, but for those of a group, where another program shares them as well.
+The ports are bound, so no one else may have them, but for those of a group, where another program shares them as well.
 With `--beside`, what comes to the ports of another program, as a node, is copied from the system, which takes root. It
-goes on until it is interrupted, or by `--count` and `--for-us`. Where the system told of datagrams that it couldn't
+goes on until it is interrupted, or by `--count` and `--for-us`. Where the system reported datagrams that it couldn't
 hand over, as one whose UDP check sum is wrong, or of packets that hold none, the last line on the error stream says how
 many these were.
 """
@@ -104,24 +104,24 @@ def telegram_line(telegram: Telegram, source: tuple[str, int], datasets: Dataset
 
 
 class Filter(NamedTuple):
-    """Which telegrams are wanted: those of one of the comIds and of one of the types; all where there are none."""
+    """Which telegrams are shown: those of one of the comIds and of one of the types; all where there are none."""
 
     com_ids: frozenset[int]
     kinds: frozenset[str]
 
     def takes(self, telegram: Telegram) -> bool:
-        """Whether a telegram is wanted."""
+        """Whether a telegram is shown."""
         is_com_id = not self.com_ids or telegram.com_id in self.com_ids
         return is_com_id and (not self.kinds or telegram.kind in self.kinds)
 
     @property
     def is_open(self) -> bool:
-        """Whether all are wanted, and with them what is no telegram."""
+        """Whether all are shown, and with them what is no telegram."""
         return not self.com_ids and not self.kinds
 
 
 def dump_line(datagram: Datagram, is_message: bool, wanted: Filter, datasets: Datasets) -> str | None:
-    """The line of a datagram; None where it isn't wanted."""
+    """The line of a datagram; None where it isn't shown."""
     try:
         telegram = read_telegram(datagram.data, is_message)
     except NoTelegram as fault:
@@ -212,7 +212,7 @@ class Taker:
             yield from self.take(seconds_left(end))
 
     def take(self, seconds: float) -> Iterator[Datagram]:
-        """What there is, where something comes within so many seconds."""
+        """What there is, where something comes within that many seconds."""
         raise NotImplementedError
 
 

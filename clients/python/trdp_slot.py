@@ -6,11 +6,11 @@
         status = doors.publish(2101, "10.0.0.2:17224", dataset=5002, cycle_us=100_000)
         doors.put(status, [4, [0, 0, 0, 0], 0])
 
-This one file needs Linux and the standard library of Python 3.11 alone, and can be copied. docs/CLIENTS.md tells how
+This one file needs Linux and the standard library of Python 3.11 alone, and can be copied. docs/CLIENTS.md says how
 it is used, and docs/SCRIPT.md what each call does and when it is refused.
 
-All times are whole numbers of microseconds, and named so: `cycle_us`. Addresses are texts as "10.0.0.2", places
-texts as "10.0.0.2:17224", URIs texts of at most 32 bytes, and sessions are `uuid.UUID`.
+All times are whole numbers of microseconds, and named so: `cycle_us`. Addresses are texts such as "10.0.0.2", places
+texts such as "10.0.0.2:17224", URIs texts of at most 32 bytes, and sessions are `uuid.UUID`.
 """
 from __future__ import annotations
 
@@ -47,7 +47,7 @@ PATH_MOST = 107
 ANY = "0.0.0.0"
 """In a filter: from any address, to any address."""
 _U32_MOST = 0xFFFFFFFF
-_TOML_MOST = 1 << 24  # bytes of a file that is read: a device as /dev/zero has no end
+_TOML_MOST = 1 << 24  # bytes of a file that is read: a device such as /dev/zero has no end
 
 # -----------------------------------------------------------------------------
 # What goes wrong
@@ -55,8 +55,7 @@ _TOML_MOST = 1 << 24  # bytes of a file that is read: a device as /dev/zero has 
 
 
 class SlotError(Exception):
-    """What this client raises by itself, but for arguments that can't be meant: these are a ValueError or a
-    TypeError."""
+    """What this client itself raises. An argument that is out of its range is a ValueError or a TypeError instead."""
 
 
 class Refused(SlotError):
@@ -182,7 +181,7 @@ FIRST_DATASET = 31
 
 class Element(NamedTuple):
     """An element of a dataset: a basic type's name or the number of a dataset, and how many values it has: 1 is a
-    single one, more an array of so many, and 0 an array of as many as the element before it says."""
+    single one, more an array of that many, and 0 an array of as many as the element before it says."""
 
     type: str | int
     size: int
@@ -308,7 +307,7 @@ class Datasets:
                 self._pack_items(element.type, [entry], at, parts, is_array=False)
             else:
                 self._pack_items(element.type, _listed(entry, element.size or count, at), at, parts, is_array=True)
-            count = entry  # of an array of size 0 behind it
+            count = entry  # of an array of size 0 after it
 
     def _pack_items(self, kind: str | int, items: Sequence[Any], at: _Way, parts: list[bytes], is_array: bool) -> None:
         for index, item in enumerate(items):
@@ -337,7 +336,7 @@ class Datasets:
             at = (*way, f"element {index}")
             items, offset = self._unpack_items(element.type, element.size or count, data, offset, at)
             value.append(items[0] if element.size == 1 else items)
-            count = value[-1]  # of an array of size 0 behind it
+            count = value[-1]  # of an array of size 0 after it
         return value, offset
 
     def _unpack_items(self, kind: str | int, count: int, data: bytes, offset: int, at: _Way) -> tuple[list[Any], int]:
@@ -366,7 +365,7 @@ def _shown(value: Any) -> str:
 
 
 def _listed(value: Any, count: int, way: _Way) -> Sequence[Any]:
-    """A list of so many entries."""
+    """A list of that many entries."""
     if not isinstance(value, (list, tuple)):
         raise _fault(way, f"{_shown(value)} is no list")
     if len(value) != count:
@@ -546,10 +545,10 @@ def _uri_of(word: str) -> str:
 
 
 class Handle:
-    """An object of the slot: what calls name it by, and indications tell of.
+    """An object of the slot: calls name it, and indications report of it.
 
     `kind` is "publisher", "subscription", "requester", "listener", "caller" or "replier", and "unknown" where an
-    indication tells of an object that this client never heard of. `number` is the node's number of it, 1, 2, 3 ..;
+    indication names an object that this client never heard of. `number` is the node's number of it, 1, 2, 3 ..;
     it changes where the object is made again. `dataset` is that of its values, 0 for bytes.
     """
 
@@ -567,7 +566,7 @@ class Handle:
 
 class Value(NamedTuple):
     """What a subscription shows. `state` is "Never" before the first telegram, "Valid" or "Silent"; `counter` that
-    of the latest telegram that was taken; `value` a value of the subscription's dataset, or bytes."""
+    of the latest telegram that was accepted; `value` a value of the subscription's dataset, or bytes."""
 
     state: str
     counter: int
@@ -575,13 +574,13 @@ class Value(NamedTuple):
 
 
 class Silent(NamedTuple):
-    """No telegram was taken by the subscription within its supervision time."""
+    """The subscription accepted no telegram within its supervision time."""
 
     handle: Handle
 
 
 class Alive(NamedTuple):
-    """The subscription was silent, and has taken a telegram again."""
+    """The subscription was silent, and has accepted a telegram again."""
 
     handle: Handle
 
@@ -612,7 +611,7 @@ class Asked(NamedTuple):
 
 
 class Overrun(NamedTuple):
-    """A listener heard a request, and the slot can't have one more replier. Nobody will answer it."""
+    """A listener heard a request, and the slot can't have one more replier. No one will answer it."""
 
     listener: Handle
 
@@ -644,18 +643,18 @@ class Closed(NamedTuple):
 
 
 class Lost(NamedTuple):
-    """Not of an object: so many texts or datagrams of the node were lost before what is told next, as this program read
-    too slowly. Some of them may have been answers."""
+    """Not of an object: that many texts or datagrams of the node were lost before the next indication, because this
+    program read too slowly. Some of them may have been answers."""
 
     texts: int
 
 
 class Restarted(NamedTuple):
-    """Not of the node: this client noticed that the slot began anew, and so has none of the objects of before: the
-    daemon was started anew, or the connection has ended, or the lease has run out.
+    """Not of the node: this client noticed that the slot has restarted, and so has none of its earlier objects: the
+    daemon was started again, or the connection has ended, or the lease has run out.
 
     `declared` are the publishers, subscriptions, requesters and listeners, which a client with `restore` makes
-    again; `lost` the callers and repliers, whose sessions nobody will tell of any more."""
+    again; `lost` the callers and repliers, of whose sessions nothing more is heard."""
 
     declared: tuple[Handle, ...]
     lost: tuple[Handle, ...]
@@ -669,7 +668,7 @@ _ANSWERS = ("handle", "done", "value", "refused")
 
 
 def _forms() -> dict[str, re.Pattern[str]]:
-    """What stands behind each first word of an answer or an indication, by docs/SCRIPT.md."""
+    """What follows each first word of an answer or an indication, by docs/SCRIPT.md."""
     number, data, place = "(?:0|[1-9][0-9]{0,9})", "(?:-|(?:[0-9a-f]{2})+)", r"[0-9.]{7,15}:[0-9]{1,5}"
     name, session = "[A-Z][A-Za-z0-9]*", "[0-9a-f]{8}(?:-[0-9a-f]{4}){3}-[0-9a-f]{12}"
     message = f"{number} {data} {data} {data}"
@@ -717,10 +716,10 @@ SLOTS_MOST = 16
 LEASE_MOST = 86_400_000_000
 """The longest lease of a daemon, in microseconds."""
 _WAIT_MOST = 3600.0  # seconds of one wait: the system takes none of many days
-# Seconds behind which `run` looks whether the slot still has its objects, where it heard nothing; behind which it tries
+# Seconds after which `run` looks whether the slot still has its objects, where it heard nothing; after which it tries
 # again what it couldn't make again; and between two tries to connect.
 _LOOK, _AGAIN, _CONNECT = 1.0, 0.1, 0.01
-# How often a slot may begin anew while its objects are made again.
+# How often a slot may restart while its objects are made again.
 _RESTORES_MOST = 10
 # The calls of an object that may be made a second time, though the first one took effect.
 _REPEATED = ("put", "get")
@@ -732,7 +731,7 @@ _REPEATED = ("put", "get")
 
 # What comes at a control port: a line, or that some were lost.
 _Came = str | Lost
-_SO_RXQ_OVFL = 40  # by which the system tells with a datagram how many were dropped so far, for want of room
+_SO_RXQ_OVFL = 40  # by which the system says with a datagram how many were dropped so far, for lack of room
 _LOST_LINE = re.compile("lost ([1-9][0-9]{0,18})")
 
 
@@ -746,7 +745,7 @@ class _Port:
 
     def __init__(self, place: tuple[str, int]) -> None:
         """Raises OSError with the place."""
-        self.is_nobody = False  # whether the system said that nobody is there
+        self.is_nobody = False  # whether the system said that no one is there
         self._dropped = 0
         self._socket = socket.socket(socket.AF_INET, socket.SOCK_DGRAM)
         try:
@@ -774,7 +773,7 @@ class _Port:
                 self._socket.send(line)
                 break
             except ConnectionRefusedError:
-                # Told of what was sent before, to a port that nobody had. Then nothing was sent now.
+                # Said of what was sent before, to a port that no one had. Then nothing was sent now.
                 self.is_nobody = True
         return True
 
@@ -866,7 +865,7 @@ class _Path:
             self._read()
             end = self._came.find(b"\n")
         if end < 0 and len(self._came) > LINE_MOST:
-            # As no trdpd says. What is behind can't be read any more.
+            # As no trdpd says. What follows can't be read any more.
             end = LINE_MOST
             self._has_end = True
         if end < 0:
@@ -884,7 +883,7 @@ class _Path:
         except BlockingIOError:
             return
         except ConnectionResetError:
-            # So the system ends one that said what nobody read.
+            # So the system ends one that said what no one read.
             data = b""
         self._came += data
         self._has_end = self._has_end or not data
@@ -917,33 +916,33 @@ class Slot:
     """The application of one slot of a node, at its control port: a UDP port or a control socket.
 
     It has one socket or connection for all, and at most one call is under way: a call of another thread waits until
-    it is over. It isn't made for several clients of one slot: over UDP the node tells indications to where the latest
+    it is over. It isn't made for several clients of one slot: over UDP the node sends indications to where the latest
     line came from, and at a control socket a second one is `Busy`.
 
-    **Beginning anew.** Before the first call goes `reset`, so that the slot has no object of an earlier program; no
-    call is made before the answer to the mark behind the last `reset` that was sent. `begin`, `sync`, `check` and
-    `send_line` say none. A client that only looks at the objects of another one has `reset=False`: `Slot.look`.
+    **A clean start.** Before the first call goes `reset`, so that the slot has no object of an earlier program; no
+    call is made before the answer to the mark after the last `reset` that was sent. `begin`, `sync`, `check` and
+    `send_line` send none. A client that only looks at the objects of another one has `reset=False`: `Slot.look`.
 
-    **Answers.** An answer doesn't say to which call it is. So behind each call goes a line that can't be read,
+    **Answers.** An answer doesn't say to which call it is. So after each call goes a line that can't be read,
     whose fault marks the end of the call's answers: what comes between two marks is the answer. Over UDP, where one of
     them doesn't come in its time, the client goes on with a new socket, at which no earlier answer comes any more. So
     in a network that keeps the order, which the one within a machine does, an answer that was lost, late or doubled is
-    never taken for that of another call. In one that doesn't, a doubled answer that falls behind a mark can be
-    taken for the next one of the same form. What can't be told in any network is whether it was the call that got
-    lost or its answer, nor that a call was brought twice. A connection keeps the order: no call is made there before
+    never taken for that of another call. In one that doesn't, a doubled answer that falls after a mark can be
+    taken for the next one of the same form. No network shows whether it was the call that got lost or its answer,
+    nor that a call was brought twice. A connection keeps the order: no call is made there before
     the answer to the mark of the one before.
 
     **Tries.** Over UDP a call is sent again where no answer came within `answer_us`, `tries` times in all, and raises
     TimeoutError where none came at all. That is so for calls that may be made twice: `put`, `get`, `reset`, and those
     that end an object. All others are sent once, unless `tries` is given with the call, and each says what a second try
-    may do. Where the system says that nobody is there, no call is sent again. Over a connection the answer is waited
+    may do. Where the system says that no one is there, no call is sent again. Over a connection the answer is waited
     for as long in all, and a call is sent again only where the node says that it dropped the answer.
 
-    **A slot that began anew** has no objects: the daemon was started anew, the connection has ended, or the lease has
-    run out. It is noticed by the end of the connection, or where the node refuses a handle as NoHandle that this client
-    was given and hasn't ended, or gives one a second time. Then all handles of before are void, and an indication
+    **A slot that has restarted** has no objects: the daemon was started again, the connection has ended, or the lease
+    has run out. It is noticed by the end of the connection, or where the node refuses a handle as NoHandle that this
+    client was given and hasn't ended, or gives one a second time. Then all earlier handles are void, and an indication
     `Restarted` says so. With `restore`, the publishers, with their latest values, subscriptions, requesters and
-    listeners are made again under the same `Handle`, behind a `reset`, and the call that noticed it is made again. As
+    listeners are made again under the same `Handle`, after a `reset`, and the call that noticed it is made again. As
     long as one of them isn't there, each call begins with making them all. `run`, `indications` and `next_indication`
     look once a second, where they hear nothing; `check` looks at once.
 
@@ -956,9 +955,9 @@ class Slot:
     parent's. As long as a child keeps a connection open, its parent's end doesn't end it. What a process becomes by
     `exec` doesn't have it.
 
-    All calls raise Refused, TimeoutError where no answer came (Nobody, at once, where nobody is at the port), Busy
+    All calls raise Refused, TimeoutError where no answer came (Nobody, at once, where no one is at the port), Busy
     where another application has the control socket, OtherSlot where another slot answers, WrongAnswer where no trdpd
-    does, ValueError or TypeError where an argument can't stand in a line, and OSError where the system refuses, as
+    does, ValueError or TypeError where an argument can't be in a line, and OSError where the system refuses, such as
     PermissionError at a control socket.
     """
 
@@ -966,8 +965,8 @@ class Slot:
                  datasets: Datasets | None = None, answer_us: int = 200_000, tries: int = 3, reset: bool = True,
                  restore: bool = False, lease_us: int | None = None, number: int | None = None) -> None:
         """A client of slot `slot` of the node with that configuration, at its UDP port, or at its control socket in the
-        folder `controls`; or at that address and port, as 127.0.0.1 and 18000; or at the control socket of that folder
-        and port, as /run/trdpd and 18000. A folder that stands first has a /.
+        folder `controls`; or at that address and port, such as 127.0.0.1 and 18000; or at the control socket of that
+        folder and port, such as /run/trdpd and 18000. A folder that comes first has a /.
 
         `datasets` are those by which values are packed; where it is None, those of the configuration, and without one
         none: then values are bytes. `answer_us` is how long an answer is waited for, and `tries` how often a call is
@@ -1007,15 +1006,15 @@ class Slot:
         self._handles: dict[int, Handle] = {}
         self._declared: list[Handle] = []
         self._highest = 0  # of the handles that the node gave
-        self._start = 0  # how often the slot was seen to begin anew
-        self._is_reset_due = reset  # whether the slot has yet to begin anew for this client
+        self._start = 0  # how often the slot was seen to restart
+        self._is_reset_due = reset  # whether the slot has yet to be reset for this client
         self._is_whole = True  # whether all that was declared is there, as far as this client makes it again
         self._told: collections.deque[Indication] = collections.deque()
         self._callbacks: dict[type, list[Callable[[Any], object]]] = {}
         self._marks = 0  # how many were sent
         self._awaited: list[str] = []  # the answers to the latest marks, where they haven't come
         self._mark_end = 0.0  # until when they are waited for
-        self._is_nobody = False  # whether the system said of the latest try that nobody is at the port
+        self._is_nobody = False  # whether the system said of the latest try that no one is at the port
         self._left_out: str | None = None  # the first line of the latest call that was no answer to it
         self._latest: float | None = None  # when the latest line was said, if one was
         self._heard = -math.inf  # when something came last
@@ -1023,7 +1022,7 @@ class Slot:
         self._is_patient = True  # whether a connection is tried again for as long as an answer is waited for
         self._lock = threading.RLock()
         self._place = place
-        # What `fileno` gives: it has the sockets, and a bell that rings as long as something is to be told.
+        # What `fileno` gives: it has the sockets, and a bell that rings as long as an indication waits.
         self._epoll = select.epoll()
         self._bell, self._rope = socket.socketpair()
         self._is_shown = self._is_watched_out = False
@@ -1041,8 +1040,8 @@ class Slot:
     @classmethod
     def look(cls, config: str | os.PathLike[str], slot: int, /, *, datasets: Datasets | None = None,
              answer_us: int = 200_000, tries: int = 3, number: int | None = None) -> Self:
-        """A client that only looks at the objects of another one, over UDP: it says no `reset`. Each of its calls
-        has the indications come to it, until the other one makes its next call. At a control socket nobody can look
+        """A client that only looks at the objects of another one, over UDP: it sends no `reset`. After each of its
+        calls the indications come to it, until the other one makes its next call. At a control socket no one can look
         beside the application; there `Operator.slots` says what a slot has."""
         return cls(config, slot, datasets=datasets, answer_us=answer_us, tries=tries, reset=False, number=number)
 
@@ -1054,9 +1053,9 @@ class Slot:
 
     def fileno(self) -> int:
         """A descriptor that can be read from where something may be there for `next_indication(0)`, until that answers
-        None; it stays the same. It is for `select` and the like alone. Whoever waits at it calls `next_indication(0)`
-        now and then also where nothing is there, so that the lease is kept, and `check`, so that a restart is
-        noticed."""
+        None; it stays the same. It is for `select` and the like alone. A program that waits at it calls
+        `next_indication(0)` now and then also where nothing is there, so that the lease is kept, and `check`, so that a
+        restart is noticed."""
         return self._epoll.fileno()
 
     def __enter__(self) -> Slot:
@@ -1099,10 +1098,10 @@ class Slot:
                   etb: int = 0, op_trn: int = 0, time_us: int = 0, behaviour: str = "zero", tries: int = 1) -> Handle:
         """Makes a subscription of telegrams of `com_id` whose payload is a value of `dataset` (0: bytes), from an
         address in `low` to `high`, sent to `dest`. `time_us` is the supervision time (0: none, else 1000 or more),
-        after which without a telegram `Silent` is told and the value becomes zero (`behaviour` "zero") or stays
+        after which without a telegram `Silent` is reported and the value becomes zero (`behaviour` "zero") or stays
         ("keep").
 
-        A second try, where the answer to the first got lost, makes a second subscription, of which nobody knows the
+        A second try, where the answer to the first got lost, makes a second subscription, of which no one knows the
         handle."""
         if behaviour not in ("zero", "keep"):
             raise ValueError(f"behaviour is {behaviour!r}, and neither zero nor keep")
@@ -1151,7 +1150,7 @@ class Slot:
     def listen(self, com_id: int | None, *, low: str = ANY, high: str = ANY, dest: str = ANY, uri: str = "",
                etb: int = 0, op_trn: int = 0, tries: int = 1) -> Handle:
         """Makes a listener to messages of `com_id` (None: of any) from an address in `low` to `high`, sent to
-        `dest`, whose destination URI is `uri` ("": any). `Notified`, `Asked` and `Overrun` tell what it hears.
+        `dest`, whose destination URI is `uri` ("": any). `Notified`, `Asked` and `Overrun` report what it hears.
 
         A second try may make a second listener, which hears nothing while the first one is there."""
         words = ["any" if com_id is None else _number_word("com_id", com_id), _address_word("low", low),
@@ -1177,12 +1176,12 @@ class Slot:
                 expected: int = 1, time_us: int = 5_000_000, source_uri: str = "", dest_uri: str = "", etb: int = 0,
                 op_trn: int = 0, retries: int = 0, tries: int = 1) -> Handle:
         """Makes a caller, and sends its request, with bytes or a value of `dataset`. Answers of `expected` places
-        (1 to 8; 0: whoever answers) are waited for over `time_us` (1000 or more), and told by `Replied`; `Closed`
-        tells how it ended. `retries` (0 to 2) is how often the node sends it again while nobody answers. `session`
-        names the exchange; where it is None, one is drawn by chance.
+        (1 to 8; 0: any number) are waited for over `time_us` (1000 or more), and reported by `Replied`; `Closed`
+        says how it ended. `retries` (0 to 2) is how often the node sends it again while no one answers. `session`
+        names the exchange; where it is None, a random one is used.
 
         A second try, where the answer to the first got lost, is refused by SessionOpen, as the first one's session
-        is open; what comes of that one is told under a handle of kind "unknown"."""
+        is open; what results from that one is reported under a handle of kind "unknown"."""
         session = session or uuid.uuid4()
         words = [_number_word("com_id", com_id), _session_word(session), _number_word("expected", expected, 0, 255),
                  _number_word("time_us", time_us), _uri_word("source_uri", source_uri),
@@ -1208,7 +1207,7 @@ class Slot:
     def query(self, handle: Handle | int, com_id: int, value: Any = b"", *, dataset: int = 0, status: int = 0,
               time_us: int = 5_000_000, tries: int = 1) -> None:
         """Answers in the same way, and waits over `time_us` (1000 or more) for a confirmation: `Confirmed` or
-        `Closed` tells what comes of it. A second try sends no second one: where the first one took effect it is
+        `Closed` says how it ended. A second try sends no second one: where the first one took effect it is
         refused by State."""
         words = [_number_word("com_id", com_id), _status_word(status), _number_word("time_us", time_us),
                  _hex_word(self._payload(dataset, value, MD_MOST))]
@@ -1230,14 +1229,14 @@ class Slot:
 
     @_one_at_a_time
     def abort(self, handle: Handle | int, *, tries: int | None = None) -> None:
-        """Ends a caller or a replier at once. The other side isn't told. A second try does no harm."""
+        """Ends a caller or a replier at once. The other side isn't informed. A second try does no harm."""
         self._end("abort", handle, tries)
 
     @_one_at_a_time
     def reset(self, *, tries: int | None = None) -> None:
-        """Has the slot begin anew: all its objects end at once, those of an earlier program too, and no handle is
-        given out again. The network isn't told. A second try does no harm. Returns once the answer to the mark behind
-        the last one that was sent has come."""
+        """Resets the slot: all its objects end at once, those of an earlier program too, and no handle is given out
+        again. Nothing is sent to the network. A second try does no harm. Returns once the answer to the mark after the
+        last one that was sent has come."""
         self._reset_slot(self._tries(tries))
         for handle in [*self._handles.values(), *self._declared]:
             self._forget(handle)
@@ -1247,14 +1246,14 @@ class Slot:
 
     def indications(self, time_us: int | None = None) -> Iterator[Indication]:
         """The indications, as they come. Ends when none has come for `time_us`; None is for ever. What came during
-        calls waits here. Over UDP the node tells them to where the latest line came from: where this client has made no
-        call yet, `begin` says one."""
+        calls waits here. Over UDP the node sends them to where the latest line came from: where this client has made no
+        call yet, `begin` sends one."""
         while (told := self.next_indication(time_us)) is not None:
             yield told
 
     def next_indication(self, time_us: int | None = None) -> Indication | None:
         """The next indication; None where none has come within `time_us`. 0 doesn't wait, and so doesn't look whether
-        the slot began anew, nor make objects again. Else it may take longer by the time of a call that does so."""
+        the slot has restarted, nor make objects again. Else it may take longer by the time of a call that does so."""
         end = _end_of(time_us)
         while True:
             told = self._next_told(may_wait=time_us != 0)
@@ -1297,14 +1296,14 @@ class Slot:
 
     @_one_at_a_time
     def begin(self) -> None:
-        """Has the node tell indications to this client from now on, by a remark, which has no answer; so over UDP it
+        """Has the node send indications to this client from now on, by a remark, which has no answer; so over UDP it
         may get lost. Each call does the same."""
         self._send("#")
 
     @_one_at_a_time
     def sync(self) -> None:
         """Returns once the daemon has taken all that was sent before; answers that were under way are dropped, and
-        indications kept. Raises TimeoutError where nobody is there."""
+        indications kept. Raises TimeoutError where no one is there."""
         for _ in range(self.tries):
             self._settle()
             self._begin_try()
@@ -1317,9 +1316,9 @@ class Slot:
 
     @_one_at_a_time
     def check(self) -> bool:
-        """Whether the slot still has all objects of this client; False where it began anew since the call before, or
-        some of them weren't there yet. Makes one call, which changes nothing. With `restore` all are there again behind
-        it. TimeoutError where nobody is there."""
+        """Whether the slot still has all objects of this client; False where it has restarted since the call before, or
+        some of them weren't there yet. Makes one call, which changes nothing. With `restore` all are there again after
+        it. TimeoutError where no one is there."""
         if not self._is_whole:
             self._restore()
             return False
@@ -1333,7 +1332,7 @@ class Slot:
 
     def read_line(self, time_us: int) -> str | None:
         """The next line that comes, an answer or an indication, without its end; None where none came within
-        `time_us`. Don't mix this with calls. Raises Nobody where the system knows that nobody is at the control
+        `time_us`. Don't mix this with calls. Raises Nobody where the system knows that no one is at the control
         port, or the connection has ended."""
         end = _end_of(time_us)
         while True:
@@ -1352,9 +1351,9 @@ class Slot:
     # -- inside: sockets -------------------------------------------------------
 
     def _connected(self) -> _Link:
-        """A socket that takes datagrams of the control port alone, or a connection. A path at which nobody listens, or
-        to which this program has no right, is tried again while objects are to be made again, as a daemon that starts
-        anew makes its file, and its file's group is given a moment later. Raises OSError with the place."""
+        """A socket that takes datagrams of the control port alone, or a connection. A path at which no one listens, or
+        to which this program has no right, is tried again while objects are to be made again: a daemon that is
+        started again makes its file, and the file's group is given a moment later. Raises OSError with the place."""
         if self._path is None:
             assert self._place is not None
             link: _Link = _Port(self._place)
@@ -1394,7 +1393,7 @@ class Slot:
     def _renew(self) -> None:
         """Goes on with a new socket: the answers that are under way go to the old one."""
         assert self._path is None and self._link is not None
-        # Where nobody was there, nobody hears a remark. Linux tells that so often a second, and then no more.
+        # Where no one was there, no one hears a remark. Linux tells that so often a second, and then no more.
         is_nobody = self._link.is_nobody
         if self._link is not self._known:
             self._drop(self._link)
@@ -1415,7 +1414,7 @@ class Slot:
         raise _Ended(f"the connection at {self._place_text()} has ended")
 
     def _links(self) -> list[_Link]:
-        """The sockets at which something may come. That of before is first: the answer to a mark at the other one says
+        """The sockets at which something may come. The earlier one is first: the answer to a mark at the other one says
         that nothing comes at it any more, and has what is there taken."""
         return [it for it in dict.fromkeys([self._known, self._link]) if it is not None]
 
@@ -1435,7 +1434,7 @@ class Slot:
 
     def _lines(self, end: float | None) -> list[tuple[_Link, _Came]]:
         """What comes first before the moment `end` of `time.monotonic`, at each socket; none where nothing does, or the
-        system says that nobody is at the port. What is there already is read even then. The lease is kept
+        system says that no one is at the port. What is there already is read even then. The lease is kept
         meanwhile. Raises _Ended where the connection has ended."""
         while self._link is not None:
             seconds = _left(min(math.inf if end is None else end, self._beat_due()))
@@ -1506,7 +1505,7 @@ class Slot:
                 if not self._reads_to_mark():
                     if self._path is not None:
                         # A new connection would be a new application. What waits is answered in order; another
-                        # mark goes behind it, as this one may have been lost.
+                        # mark goes after it, as this one may have been lost.
                         self._mark_end = time.monotonic() + self._patience()
                         if len(self._awaited) < len(_MARKS):
                             self._send_mark()
@@ -1514,7 +1513,7 @@ class Slot:
                     self._renew()
                 is_over = True
             except (OtherSlot, WrongAnswer):
-                # What an earlier call was answered, which was told by then.
+                # What an earlier call was answered, which was reported by then.
                 continue
 
     def _reads_to_mark(self) -> bool:
@@ -1561,7 +1560,7 @@ class Slot:
         self._left_out = None
 
     def _silence(self, tries: int, line: str) -> NoAnswer | WrongAnswer:
-        """What is said where no answer came: nobody is there, somebody else is, or it isn't known."""
+        """What is said where no answer came: no one is there, somebody else is, or it isn't known."""
         left_out = self._left_out
         if left_out is not None and _read_line_or_none(left_out) is None:
             return WrongAnswer(self._place_text(), left_out)
@@ -1629,7 +1628,7 @@ class Slot:
         return is_first and line == "busy"
 
     def _note_lost(self, lost: Lost) -> None:
-        """Tells what was lost. The answer to a mark may be among it: then another mark goes behind it."""
+        """Reports what was lost. The answer to a mark may be among it: then another mark goes after it."""
         if self._told and isinstance(before := self._told[-1], Lost):
             self._told[-1] = Lost(before.texts + lost.texts)
         else:
@@ -1638,7 +1637,7 @@ class Slot:
             self._send_mark()
 
     def _note_mark(self, answer: str) -> None:
-        """The answer to a mark came, and none to an earlier one comes behind it. With it the node answers at this
+        """The answer to a mark came, and none to an earlier one comes after it. With it the node answers at this
         socket, and nothing more goes to another one."""
         del self._awaited[:self._awaited.index(answer) + 1]
         if self._known is not None and self._known is not self._link:
@@ -1744,7 +1743,7 @@ class Slot:
         self._told.appendleft(told)
 
     def _take_what_is_there(self) -> None:
-        """Takes what has come, until something is to be told."""
+        """Takes what has come, until there is an indication."""
         with contextlib.suppress(_Ended):
             while not self._told and self._links() and self._take_next(0.0) is not None:
                 pass
@@ -1774,7 +1773,7 @@ class Slot:
 
     @_one_at_a_time
     def _attend(self, may_wait: bool) -> None:
-        """Does what is due though nothing comes: keeps the lease; looks whether the slot began anew; makes objects
+        """Does what is due though nothing comes: keeps the lease; looks whether the slot has restarted; makes objects
         again. What can't be done is tried again later."""
         with contextlib.suppress(NoAnswer, PermissionError):
             self._beat()
@@ -1812,7 +1811,7 @@ class Slot:
     # -- inside: objects -------------------------------------------------------
 
     def _prepare(self) -> None:
-        """Sees to it that the slot is as this client has it, before a call is made: that it began anew for it, and has
+        """Sees to it that the slot is as this client has it, before a call is made: that it was reset for it, and has
         all that is to be made again."""
         if not self._is_whole:
             self._restore()
@@ -1820,7 +1819,7 @@ class Slot:
             self._reset_slot(self.tries)
 
     def _reset_slot(self, tries: int) -> None:
-        """Has the slot begin anew. Returns once the answer to the mark behind the last `reset` has come, so that none
+        """Resets the slot. Returns once the answer to the mark after the last `reset` has come, so that none
         that was sent is taken later."""
         self._settle()
         for number in range(1, _whole("tries", tries, 1) + 1):
@@ -1846,8 +1845,8 @@ class Slot:
         self._data_of(line)
         self._prepare()
         try:
-            # Where its number isn't new, it is the first one of a daemon that began anew: it stays where no other one
-            # is to be made again, and else the reset before that ends it.
+            # Where its number isn't new, it is the first one of a daemon that was started again: it stays where no
+            # other one is to be made again, and else the reset before that ends it.
             is_made = self._make(handle, tries) or self._is_whole
         except _Ended as end:
             # An object is gone with its connection, but a request that was sent isn't.
@@ -1863,7 +1862,7 @@ class Slot:
 
     def _make(self, handle: Handle, tries: int) -> bool:
         """Has the node make an object, by the line of its handle. Answers whether its number is new: else the daemon
-        began anew, which is told; where objects are made again by a reset, this one has to be, too."""
+        was started again, which is reported; where objects are made again by a reset, this one has to be, too."""
         assert handle._line is not None
         number = int(self._ask([handle._line], "handle", tries)[1])
         is_new = number > self._highest
@@ -1874,14 +1873,14 @@ class Slot:
         return is_new
 
     def _void(self) -> None:
-        """Voids all handles: the slot that gave them began anew."""
+        """Voids all handles: the slot that gave them has restarted."""
         lost = [it for it in self._handles.values() if it.kind not in _DECLARED]
         self._begin_start()
         self._is_whole = not (self.restore and self._declared)
         self._told.append(Restarted(tuple(self._declared), tuple(lost)))
 
     def _begin_start(self) -> None:
-        """From here on no handle of before is one of an object."""
+        """From here on no earlier handle is one of an object."""
         self._handles.clear()
         self._highest = 0
         self._start += 1
@@ -1889,8 +1888,8 @@ class Slot:
         self._tried = -math.inf
 
     def _restore(self) -> None:
-        """Makes all declared objects again, behind a reset, so that no half of an earlier try stays. Where that fails
-        the slot isn't whole, and whoever comes next begins again."""
+        """Makes all declared objects again, after a reset, so that no half of an earlier try stays. Where that fails
+        the slot isn't whole, and the next call begins again."""
         for _ in range(_RESTORES_MOST):
             if self._restores():
                 return
@@ -1898,7 +1897,7 @@ class Slot:
                        "made again")
 
     def _restores(self) -> bool:
-        """The same; False where the slot began anew meanwhile."""
+        """The same; False where the slot restarted meanwhile."""
         highest = self._highest
         self._begin_start()
         self._highest = highest
@@ -1942,7 +1941,7 @@ class Slot:
 
     def _act(self, verb: str, handle: Handle | int, words: Sequence[str], tries: int,
              answer: str = "done") -> list[str]:
-        """Makes a call of an object; once more where the slot began anew and the object is made again."""
+        """Makes a call of an object; once more where the slot has restarted and the object is made again."""
         number = _number_word("handle", handle) if isinstance(handle, int) else str(
             _typed("handle", handle, Handle, "Handle or number").number)
         self._data_of(" ".join([verb, number, *words]))
@@ -1969,7 +1968,7 @@ class Slot:
     def _end(self, verb: str, handle: Handle | int, tries: int | None) -> None:
         """Ends an object. Where an earlier try did that, a later one finds no handle."""
         if isinstance(handle, Handle) and handle in self._declared and handle._start != self._start:
-            # Of a slot that began anew. From here on it isn't made again.
+            # Of a slot that has restarted. From here on it isn't made again.
             self._forget(handle)
             return
         number = self._number_of(handle)
@@ -1988,7 +1987,7 @@ class Slot:
                 raise
             self._forget(handle)
             if refusal.tries == 1:
-                # No earlier try ended it, so the slot began anew.
+                # No earlier try ended it, so the slot has restarted.
                 self._void()
                 if not self.restore:
                     raise
@@ -2003,7 +2002,7 @@ def _line_of(data: bytes) -> str:
 
 
 def _end_of(time_us: float | None) -> float | None:
-    """The moment of `time.monotonic` in so many microseconds; None where that is for ever."""
+    """The moment of `time.monotonic` in that many microseconds; None where that is for ever."""
     if time_us is None:
         return None
     if not isinstance(time_us, (int, float)) or not time_us >= 0:
@@ -2078,13 +2077,13 @@ class AsyncSlot:
 
     **Calls** are made one after another, in the order in which they were begun, each in a thread, so that the others
     of the program go on meanwhile. One that is cancelled before its turn isn't made. One that is cancelled later goes
-    on to its end, and nobody is told its answer: a cancelled `publish` may leave a publisher. No indication gets lost
-    where somebody is cancelled who waits for it.
+    on to its end, and its answer is dropped: a cancelled `publish` may leave a publisher. No indication gets lost
+    where a task that waits for it is cancelled.
 
     **The lease** is kept in calls, and while a task waits for an indication. Its program's loop does that, and no
     thread: where the loop hangs, nothing is said.
 
-    While it is used, nobody else calls `slot`.
+    While it is used, no one else calls `slot`.
     """
 
     def __init__(self, slot: Slot) -> None:
@@ -2097,7 +2096,7 @@ class AsyncSlot:
         self._is_closed = False
 
     async def close(self) -> None:
-        """Closes the client, once the call that is under way is over. A task that waits for an indication is told that
+        """Closes the client, once the call that is under way is over. A task that waits for an indication learns that
         none comes any more."""
         self._is_closed = True
         self._heard.set()
@@ -2126,7 +2125,7 @@ class AsyncSlot:
         async with self._hearing:
             while not self._is_closed:
                 async with self._turn:
-                    # Nobody has the client now, so that this waits for nothing.
+                    # No one has the client now, so that this waits for nothing.
                     told = self.slot._next_told(may_wait=False)
                 now = time.monotonic()
                 if told is not None or end is not None and now >= end:
@@ -2139,7 +2138,7 @@ class AsyncSlot:
         return None
 
     async def _can_hear(self, seconds: float) -> None:
-        """Waits until something came, so many seconds at most."""
+        """Waits until something came, that many seconds at most."""
         loop = asyncio.get_running_loop()
         loop.add_reader(self.slot.fileno(), self._heard.set)
         try:
@@ -2162,7 +2161,7 @@ class AsyncSlot:
         return await asyncio.shield(made)
 
     def _is_over(self, made: asyncio.Future[Any]) -> None:
-        """A call is over. What it raises nobody is told who was cancelled."""
+        """A call is over. What it raises is dropped where its task was cancelled."""
         self._turn.release()
         if not made.cancelled():
             made.exception()
@@ -2198,7 +2197,7 @@ class AsyncSlot:
 
 class Totals(NamedTuple):
     """What a daemon has counted since it began: datagrams that came, that were given to the system, and that it
-    refused; takes at which it failed; and what was lost for want of memory."""
+    refused; takes at which it failed; and what was lost because there was no memory."""
 
     taken: int
     offered: int
@@ -2237,7 +2236,7 @@ class Operator:
 
     Each line goes from a socket or a connection of its own, so that no answer is taken for that of another line. Each
     method raises Refused with the fault's name (NoGroup, SlotsFull), TimeoutError where no answer came (Nobody, at
-    once, where nobody is there), Busy where four other operators have the control socket, and WrongAnswer where no
+    once, where no one is there), Busy where four other operators have the control socket, and WrongAnswer where no
     trdpd answers."""
 
     def __init__(self, address: str, port: int | None = None, *, answer_us: int = 200_000, tries: int = 3) -> None:
@@ -2254,7 +2253,7 @@ class Operator:
         self.tries = _whole("tries", tries, 1)
 
     def topology(self, etb: int, op_trn: int) -> None:
-        """The train's network has these topology counts from now on. A second try does no harm."""
+        """The train's network has these topology counters from now on. A second try does no harm."""
         self._say(" ".join(["topology", *_counts(etb, op_trn)]), self.tries)
 
     def role(self, group: int, is_leader: bool) -> None:
@@ -2264,7 +2263,7 @@ class Operator:
 
     def addslot(self, publishers: int = 0, subscriptions: int = 0, requesters: int = 0, listeners: int = 0,
                 callers: int = 0, repliers: int = 0) -> None:
-        """Opens the next slot, for so many objects of each kind, 0 to 256. It is sent once: a second try may open a
+        """Opens the next slot, for that many objects of each kind, 0 to 256. It is sent once: a second try may open a
         second one."""
         quotas = [publishers, subscriptions, requesters, listeners, callers, repliers]
         self._say(" ".join(["addslot", *(_number_word("quota", it, 0, 256) for it in quotas)]), 1)

@@ -60,8 +60,8 @@ class Telegram:
         return self.kind in MD_KINDS
 
     def write(self) -> bytes:
-        """Its bytes. Raises ValueError where a field can't stand in a header, or the payload is longer than one may
-        be."""
+        """Its bytes. Raises ValueError where a value can't be in its field of a header, or the payload is longer than
+        one may be."""
         if self.kind not in PD_KINDS + MD_KINDS:
             raise ValueError(f"there is no type {self.kind}")
         most = MD_MOST if self.is_message else PD_MOST
@@ -144,7 +144,7 @@ class PcapngFile:
 
 
 def _ip_header(source: str, dest: str, length: int) -> bytes:
-    """An IPv4 header before so many bytes of UDP."""
+    """An IPv4 header before that many bytes of UDP."""
     addresses = ipaddress.IPv4Address(source).packed + ipaddress.IPv4Address(dest).packed
     head = struct.pack(">BBHHHBBH", 0x45, 0, 20 + length, 0, 0x4000, 64, 17, 0) + addresses
     total = sum(struct.unpack(">10H", head))

@@ -23,7 +23,7 @@ PORT_MOST = 0xFFFF
 WAIT_MOST_US = 10**15
 """The longest wait that a command line asks for, in microseconds: thirty years."""
 ANY_ADDRESS = "0.0.0.0"
-"""What stands for all addresses of this machine, or for none."""
+"""The address that means all addresses of this machine, or none."""
 
 
 class Interface(NamedTuple):
@@ -135,7 +135,7 @@ def name_of(file: str) -> str:
 
 
 def drop_output() -> None:
-    """Drops what standard output hasn't taken, where it takes nothing: else Python tells of it behind the end."""
+    """Drops what standard output hasn't taken, where it takes nothing: else Python reports it after the end."""
     try:
         sys.stdout.flush()
     except (OSError, ValueError):
