@@ -12,6 +12,7 @@ TOP = pathlib.Path(__file__).resolve().parent.parent
 OWN, IN_C = TOP / "package" / "files", TOP / "clients" / "c"
 DOC = "usr/share/doc/trdpd"
 MODULES = "usr/lib/python3/dist-packages"
+PLUGINS = "usr/lib/x86_64-linux-gnu/wireshark/plugins"
 # The tools that are commands, and the module of each.
 TOOLS = {"trdp-dump": "trdp_dump", "trdp-lua": "trdp_lua", "trdp-send": "trdp_send"}
 # Debian's packages of the libraries, and how their versions begin in an ELF file.
@@ -22,7 +23,7 @@ PACKAGES = {
 # The kit's crates that come without a text of a licence, as package/licences.txt says.
 WITHOUT_LICENCE = ("libc", "os")
 # What of examples/ only runs in the project's folder.
-RUNNERS = re.compile(r"(.*/)?(play|play\.py|lossy/.*|__pycache__/.*)")
+RUNNERS = re.compile(r"(.*/)?(play|play(_\w+)?\.py|lossy/.*|__pycache__/.*)")
 # The lines of the unit in examples/ that give the control sockets of two applications to their groups.
 GROUPS = re.compile(r"^# The daemon makes its files in the order .*?(?=^Restart=)", re.MULTILINE | re.DOTALL)
 UNIT = "examples/systemd/trdpd.service"
@@ -48,15 +49,6 @@ def changed(path: str, *changes: tuple[str, str]) -> str:
             raise Refused(f"{path} has {old!r} {text.count(old)} times, and not once")
         text = text.replace(old, new)
     return text
-
-
-def version() -> str:
-    """The version of the program."""
-    path = "crates/trdpd/src/version.rt"
-    found = re.findall(r'^pub const VERSION: &str = "(\d+\.\d+\.\d+)";$', text_of(path), re.MULTILINE)
-    if len(found) != 1:
-        raise Refused(f"{path} names no version")
-    return str(found[0])
 
 
 def filled(name: str, folder: pathlib.Path = OWN, **words: str) -> str:
@@ -102,7 +94,7 @@ def unit_parts() -> tuple[str, str]:
 
 
 def kit_crates() -> set[str]:
-    """The crates of the kit on which those of the project stand."""
+    """The crates of the kit that the project's crates use."""
     lines = [line.split("#")[0].partition(":") for line in text_of("crates.txt").splitlines()]
     own = {name.split()[0] for name, _, _ in lines if name.strip()}
     return {name for _, _, below in lines for name in below.split()} - own
@@ -120,13 +112,14 @@ def copyright_text() -> str:
 
 
 def changelog(number: str, day: str) -> bytes:
-    """What Debian's tools want to know of the version."""
+    """The changelog that Debian's tools expect of the version."""
     return zipped(filled("changelog", VERSION=number, DAY=day).encode())
 
 
 def document_files() -> Iterator[File]:
     """The project's documents and examples, as they are there."""
-    paths = [TOP / "README.md", TOP / "CHANGELOG.md", *(TOP / "docs").glob("*.md"), *(TOP / "examples").rglob("*")]
+    pages = [*TOP.glob("*.md"), *(TOP / "docs").glob("[A-Z]*.md"), *(TOP / "docs").glob("*.svg")]
+    paths = [*pages, *(TOP / "examples").rglob("*")]
     for path in paths:
         name = path.relative_to(TOP).as_posix()
         if path.is_file() and name != UNIT and not RUNNERS.fullmatch(name):
@@ -149,15 +142,21 @@ def client_files(number: str) -> Iterator[File]:
         yield File(f"{MODULES}/{path.stem}/py.typed", b"")
     for tool, module in TOOLS.items():
         yield File(f"usr/bin/{tool}", filled("tool", MODULE=module).encode(), is_program=True)
-    yield File("usr/lib/x86_64-linux-gnu/wireshark/plugins/trdp.lua", text_of("wireshark/trdp.lua").encode())
+    yield File(f"{PLUGINS}/trdp.lua", text_of("wireshark/trdp.lua").encode())
+
+
+def page_files() -> Iterator[File]:
+    """The manual pages of the program and the tools. A path of the project becomes that on the machine."""
+    for name in ("trdpd", *TOOLS):
+        page = re.sub(r"\b(docs|examples)/", rf"/{DOC}/\1/", text_of(f"docs/{name}.1"))
+        page = page.replace("wireshark/trdp.lua", f"/{PLUGINS}/trdp.lua")
+        yield File(f"usr/share/man/man1/{name}.1.gz", zipped(page.encode()))
 
 
 def program_files(program: bytes) -> Iterator[File]:
-    """The program, and what runs it and tells of it."""
+    """The program, its unit with a drop-in and a user, its completion, and its configuration."""
     unit, drop_in = unit_parts()
-    page = re.sub(r"\b(docs|examples)/", rf"/{DOC}/\1/", text_of("docs/trdpd.1"))
     yield File("usr/bin/trdpd", program, is_program=True)
-    yield File("usr/share/man/man1/trdpd.1.gz", zipped(page.encode()))
     yield File("usr/lib/systemd/system/trdpd.service", unit.encode())
     yield File(f"{DOC}/{UNIT}.d/applications.conf", drop_in.encode())
     yield File("usr/lib/sysusers.d/trdpd.conf", filled("trdpd.sysusers").encode())
@@ -168,7 +167,7 @@ def program_files(program: bytes) -> Iterator[File]:
 
 def package_files(program: bytes, number: str, day: str) -> list[File]:
     """All files of the package, in the order of their paths."""
-    found = [*program_files(program), *client_files(number), *document_files()]
+    found = [*program_files(program), *client_files(number), *page_files(), *document_files()]
     found.append(File(f"{DOC}/copyright", copyright_text().encode()))
     found.append(File(f"{DOC}/changelog.gz", changelog(number, day)))
     found.append(File("usr/share/lintian/overrides/trdpd", filled("lintian-overrides").encode()))
@@ -176,7 +175,7 @@ def package_files(program: bytes, number: str, day: str) -> list[File]:
 
 
 def control_files(files: list[File], program: bytes, number: str) -> list[File]:
-    """What dpkg is told of the package, and what it does at its installation and its end."""
+    """The control file of the package, its lists of files, and its scripts of installation and removal."""
     size = str(sum(-(-len(file.content) // 1024) for file in files))
     control = filled("control", VERSION=number, SIZE=size, DEPENDS=depends(program))
     found = [File("control", control.encode()), File("md5sums", sums(files).encode())]

@@ -1,4 +1,4 @@
-"""What a program wants of the system's libraries, as its ELF file says."""
+"""What a program needs of the system's libraries, according to its ELF file."""
 from __future__ import annotations
 
 import struct
@@ -57,7 +57,7 @@ def needed(section: Section, names: bytes) -> list[str]:
 
 
 def version_needs(section: Section, names: bytes) -> dict[str, list[str]]:
-    """The versions that a section wants of each library."""
+    """The versions that a section needs of each library."""
     found: dict[str, list[str]] = {}
     place = 0
     for _ in range(section.parts):

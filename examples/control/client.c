@@ -8,14 +8,14 @@
  *
  * PATH is that of a control socket, with a slash in it.
  *
- * It is written on clients/c/trdp_slot.h, of which it takes the socket alone: its lines are those of
- * docs/SCRIPT.md as they stand. clients/c/door.c is an application on the calls. The exit status is
- * 0 where something came back, 1 where nothing did, 2 for other words. */
+ * It uses the socket of clients/c/trdp_slot.h, and none of its calls: the lines are those of
+ * docs/SCRIPT.md, word for word. clients/c/door.c is an application that uses the calls. The exit
+ * status is 0 where something came back, 1 where nothing did, 2 for other words. */
 #include "../../clients/c/trdp_slot.h"
 #include <stdio.h>
 #include <stdlib.h>
 
-/* Prints what comes back until that moment. Answers whether something did. */
+/* Prints what comes back until that time. Returns whether something did. */
 static bool show(struct trdp_slot *slot, int64_t until)
 {
     bool heard = false;

@@ -1,6 +1,5 @@
 #!/usr/bin/env python3
-"""A client of a control port of trdpd: sends lines, and prints all that comes back, within a time or for as long as
-it stays.
+"""A client of a control port of trdpd: sends lines, and prints all that comes back, within a time or until it ends.
 
     client.py ADDRESS PORT SECONDS LINE..
     client.py PATH SECONDS LINE..
@@ -10,16 +9,16 @@ it stays.
     client.py --stay /run/trdpd/18000
 
 A word with a / is the path of a control socket; else the port is a UDP port. With --stay each line that is typed is
-sent too, until its input or the connection ends; for a second more it then prints what still comes.
+sent too, until the input or the connection ends. For a second after that it prints what still comes.
 
-Over UDP the node tells an application's indications (silent, asked ..) to where its latest line came from, so one that
-follows a value keeps one socket open, as this one does. A line that is empty or begins with # has no answer, but has
-the indications come here. At a control socket the connection is the application: where this client ends, the node
+Over UDP the node sends an application's indications (silent, asked ..) to the sender of its latest line. So a client
+that follows a value keeps one socket open, as this one does. A line that is empty or begins with # has no answer, but
+has the indications come here. At a control socket the connection is the application: when this client ends, the node
 resets the slot.
 
-The exit status is 0 where something came back, 1 where nothing did or something went wrong, 2 for words that can't be
-meant. Over UDP it uses clients/python/trdp_slot.py, which has a method for each call, and matches answers to calls:
-docs/CLIENTS.md.
+The exit status is 0 where something came back, 1 where nothing did or something went wrong, 2 for words that mean
+nothing. Over UDP it uses clients/python/trdp_slot.py, which has a method for each call, and finds the answer to each
+call: docs/CLIENTS.md.
 """
 from __future__ import annotations
 
@@ -45,9 +44,9 @@ LINE_MOST = 140_000
 PATH_MOST = 107
 """The most bytes of a socket's path."""
 TICK_SECONDS = 0.02
-"""How soon a line that is typed is looked at."""
+"""How soon a line that is typed is read."""
 LAST_SECONDS = 1.0
-"""How long it waits behind the end of its input for what still comes."""
+"""How long it waits after the end of its input for what still comes."""
 USAGE = """client.py ADDRESS PORT SECONDS LINE..
        client.py PATH SECONDS LINE..
        client.py --stay ADDRESS PORT [LINE..]
@@ -55,19 +54,19 @@ USAGE = """client.py ADDRESS PORT SECONDS LINE..
 
 
 class Datagrams(Slot):
-    """A control port over UDP: each line is a datagram, taken at once, and nobody ever ends it."""
+    """A control port over UDP: each line is a datagram, sent at once, and the other side never ends it."""
 
     line_most = DATAGRAM_MOST
     is_over = False
     is_behind = False
 
     def end_lines(self) -> None:
-        """Says that no line follows, which over UDP nobody is told."""
+        """Does nothing: over UDP the other side is not informed that no line follows."""
 
 
 class Connection:
-    """A connection to a control socket. No call waits for the other side to take a line, and it keeps no more than a
-    line of what came."""
+    """A connection to a control socket. No call waits for the other side to read a line. Of what came it keeps no more
+    than a line."""
 
     line_most = LINE_MOST - 1
 
@@ -87,21 +86,21 @@ class Connection:
             raise OSError(fault.errno, fault.strerror, path) from None
 
     def close(self) -> None:
-        """Ends it, with what is unsent."""
+        """Closes it. What is unsent is lost."""
         self._socket.close()
 
     @property
     def is_behind(self) -> bool:
-        """Whether the other side hasn't taken all lines."""
+        """Whether a line, or a part of one, is still unsent."""
         return bool(self._unsent)
 
     def send_line(self, line: str) -> None:
-        """Sends a line, as soon as the other side takes it."""
+        """Sends a line, as soon as there is room for it."""
         self._unsent += bytes_of(line) + b"\n"
         self._write()
 
     def end_lines(self) -> None:
-        """Says behind what is unsent that no line follows. What the other side says is still read."""
+        """Ends the lines after what is unsent. What the other side sends is still read."""
         self._is_last = True
         self._write()
 
@@ -148,7 +147,7 @@ class Connection:
         except BlockingIOError:
             pass
         except (BrokenPipeError, ConnectionResetError):
-            # What the other side said before it ended is there to be read.
+            # What the other side sent before it ended can still be read.
             self._unsent.clear()
 
     def _read(self) -> None:
@@ -163,7 +162,7 @@ class Connection:
 
 
 class Typed:
-    """The lines of standard input, each of so many bytes at most."""
+    """The lines of standard input, each of at most that many bytes."""
 
     def __init__(self, most: int) -> None:
         self._most = most
@@ -172,7 +171,7 @@ class Typed:
         self.is_over = self._input < 0
 
     def next_lines(self) -> list[str]:
-        """Those that are there now; at the end of the input a last one without its end too. Raises ValueError where
+        """Those that can be read now; at the end of the input also a last one without its end. Raises ValueError where
         one is too long, and OSError."""
         if self.is_over:
             return []
@@ -196,7 +195,7 @@ def bytes_of(line: str) -> bytes:
 
 
 def line_of(most: int) -> Callable[[str], str]:
-    """Reads a line of so many bytes at most."""
+    """Reads a line of at most that many bytes."""
     def read(text: str) -> str:
         if len(bytes_of(text)) > most:
             raise argparse.ArgumentTypeError(f"a line has more than {most} bytes")
@@ -215,7 +214,7 @@ def path_of(text: str) -> str:
 
 @functools.cache
 def parser(has_path: bool, stays: bool) -> trdp_words.Words:
-    """All words of the command line, with a path or an address, and for one that stays or not."""
+    """All words of the command line: with a path or an address, with --stay or without."""
     words = trdp_words.Words(prog="client.py", usage=USAGE, allow_abbrev=False,
                              description="Sends lines, and prints all that comes back.")
     words.add_argument("--stay", action="store_true", help="go on, without SECONDS, and send what is typed, too")
@@ -233,22 +232,22 @@ def parser(has_path: bool, stays: bool) -> trdp_words.Words:
 
 
 def asked_by(words: list[str]) -> argparse.Namespace:
-    """What the words of the command line ask for. Ends the program where they can't be meant."""
+    """What the words of the command line ask for. Ends the program where they mean nothing."""
     begin = words.index("--") + 1 if "--" in words else len(words)
-    # argparse would take a second one for no word at all, where one has to stand.
+    # argparse would ignore a second `--` where a word is required.
     words = words[:begin] + [it for it in words[begin:] if it != "--"]
     first = next((it for it in words if not it.startswith("-")), "")
     return parser("/" in first, "--stay" in words[:begin]).parse_args(words)
 
 
 def open_port(asked: argparse.Namespace) -> Datagrams | Connection:
-    """The control port that is asked for. Raises OSError with the place."""
+    """The control port that is asked for. Raises OSError with its address or path."""
     return Connection(asked.path) if "path" in asked else Datagrams(asked.address, asked.port, reset=False)
 
 
 def talk(port: Datagrams | Connection, lines: list[str], end: float, typed: Typed | None) -> bool:
-    """Sends the lines, and then those that are typed, if any are. Prints what comes back until that moment, the end of
-    the connection, or a while behind the end of what is typed. Answers whether something came."""
+    """Sends the lines, and then those that are typed, if any are. Prints what comes back until that time, the end of
+    the connection, or a while after the end of what is typed. Returns whether something came."""
     for line in lines:
         port.send_line(line)
     heard = is_last = False
@@ -280,7 +279,7 @@ def main(words: list[str]) -> int:
             end = math.inf if asked.stay else time.monotonic() + asked.seconds
             return 0 if talk(port, asked.line, end, typed) else 1
     except (OSError, ValueError) as fault:
-        # As where nobody is at the control port.
+        # For example where no node is at the control port.
         print(f"client.py: {trdp_words.sentence(fault)}", file=sys.stderr)
         trdp_words.drop_output()
         return 1

@@ -5,7 +5,8 @@
 
 Both controllers have the doors' status, and the one that leads sends it. Who leads is decided here, and nowhere in the
 node: the second controller follows what the first one sends, leads as soon as it hears nothing for the time of three
-telegrams, and follows again with the next one that it hears. So the first one always leads, and has to know of nothing.
+telegrams, and follows again with the next one that it hears. So the first one always leads, and needs to know of
+nothing.
 """
 from __future__ import annotations
 
@@ -26,7 +27,7 @@ class Doors:
         self.operator = operator
         self.number = number
         self.leads = False
-        self.obstacles = 0  # it grows with each telegram here, so that each one can be told from the one before
+        self.obstacles = 0  # it rises in each cycle here, so that telegrams can be told apart
         places = [(train.STATUS, f"{train.SEEN}:{train.PD}"), (train.RECORD, f"{train.DIAGNOSIS}:{train.PD}")]
         self.sent = [slot.publish(com_id, place, dataset=DATASET, cycle_us=CYCLE_US, group=train.REDUNDANT)
                      for com_id, place in places]
@@ -62,7 +63,7 @@ class Doors:
             if self.leads or self.first is None:
                 self.obstacles = (self.obstacles + 1) % 65536
             elif (heard := self.slot.get(self.first)).state == "Valid":
-                # Whoever takes over goes on where the other one has ended.
+                # So a takeover continues the count of the other controller.
                 self.obstacles = heard.value[-1]
             for handle in self.sent:
                 self.slot.put(handle, [self.number, 4, [0, 0, 0, 2], self.obstacles])

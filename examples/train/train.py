@@ -1,4 +1,4 @@
-"""What the applications of the train have in common: the numbers that they share, and how they tell what they see."""
+"""What the applications of the train have in common: the numbers that they share, and how they report what they see."""
 from __future__ import annotations
 
 import json
@@ -27,5 +27,5 @@ PATIENCE_US = 2_000_000
 
 
 def say(kind: str, **words: object) -> None:
-    """Tells what this application sees, in a line of JSON with the time of the machine's steady clock."""
+    """Reports what this application sees, in a line of JSON with the time of the machine's steady clock."""
     print(json.dumps({"kind": kind, "at": time.monotonic(), **words}), flush=True)
