@@ -37,8 +37,8 @@ wait_in Look = Some 0
 wait_in (Sleep micros) = Some 0
 wait_in (Wait millis) = Some millis
 
--- whether there was no rest for 50 milliseconds up to this reading: since the turn that first
--- asked for news after the latest rest, or after the latest sleep for being busy
+-- whether there was no rest for 50 milliseconds up to this reading: since the first turn without
+-- one, or the first after the latest sleep for being busy
 unfoldable pub is_breathless : Option ℕ → ℕ → Bool
 is_breathless None reading = false
 is_breathless (Some since) reading = nat_lt (since + 49_999) reading
@@ -71,7 +71,7 @@ Breathes reading sleeps sleeps_then busy busy_then =
 abbrev pub PausesSo : RestStep → (reading : ℕ) → (sleeps sleeps_then : Option (List ℕ))
     → (busy busy_then : Option ℕ) → Type 0
 PausesSo GoOn reading sleeps sleeps_then busy busy_then =
-    (sleeps_then ≡ sleeps) × (busy_then ≡ busy)
+    Breathes reading sleeps sleeps_then busy busy_then
 PausesSo Look reading sleeps sleeps_then busy busy_then =
     Breathes reading sleeps sleeps_then busy busy_then
 PausesSo (Sleep micros) reading sleeps sleeps_then busy busy_then =

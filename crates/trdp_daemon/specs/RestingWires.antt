@@ -1,16 +1,36 @@
 -- What a wire that rests does at a take and at a rest.
-use Rattle.std.specs.Prelude.{◌≡◌, ℕ, List, [], ◌∷◌, Bool, true, false, ◌||◌}
+use Rattle.std.specs.Prelude.{◌≡◌, ℕ, List, [], ◌∷◌, Bool, true, false, ◌&&◌, ◌||◌, not}
 use Rattle.std.specs.Prelude.{Option, Some, None, Result, Ok}
 use Rattle.trdp_base.specs.declared.place.Place.{Place}
 use Rattle.trdp_daemon.specs.declared.fault.WireFault.{WireFault}
 use Rattle.trdp_daemon.specs.declared.port.Port.{Port}
 use Rattle.trdp_daemon.specs.declared.resting_wire.RestingWire.{RestingWire}
-use Rattle.trdp_daemon.specs.News.{WaitsIf, has_news, news_after}
+use Rattle.trdp_daemon.specs.News.{WaitsForNews, WaitsIf, has_news, news_after}
 use Rattle.trdp_daemon.specs.declared.rest_step.RestStep.{RestStep}
 use Rattle.trdp_daemon.specs.RestSteps.{PausesSo, is_rest, rest_left, step_of, wait_in}
 use Rattle.trdp_daemon.specs.Sockets.{SocketCall, socket_of}
 use Rattle.trdp_daemon.specs.SocketWires.{TakesAtSocket}
 use Rattle.trdp_daemon.specs.Told.{TellsMore}
+
+-- whether a take asks the system for news first: something was heard in this turn, the turn
+-- doesn't go on without asking, and there are no news of the port
+abbrev pub looks_first : (heard goes_on there : Bool) → Bool
+looks_first heard goes_on there = heard && (not goes_on && not there)
+
+-- the system is asked for news, and the turn goes on without asking again
+pub record Looks {S C : Type 0} (calls_of : S → Option (List SocketCall))
+    (old new : RestingWire S C) : Type 0 where
+  pub waits : WaitsForNews 0 (calls_of old.wire.sockets) (calls_of new.wire.sockets)
+      old.news new.news
+  pub goes_on : new.goes_on ≡ true
+  pub heard : new.heard ≡ old.heard
+  pub groups : new.wire.groups ≡ old.wire.groups
+
+-- the same where it may not be asked
+abbrev pub LooksIf : {S C : Type 0} → Bool → (S → Option (List SocketCall))
+    → (old new : RestingWire S C) → Type 0
+LooksIf true calls_of old new = Looks calls_of old new
+LooksIf false calls_of old new = new ≡ old
 
 -- a take where there are news is one at the port's socket; the news are over where nothing was
 -- heard
@@ -22,6 +42,7 @@ pub record TakesAtNews {S C : Type 0} (calls_of : S → Option (List SocketCall)
       (calls_of new.wire.sockets) port room result old.wire.failures new.wire.failures heard
   pub noted : new.heard ≡ old.heard || heard
   pub news : new.news ≡ news_after heard (socket_of old.wire.groups port) old.news
+  pub goes_on : new.goes_on ≡ old.goes_on
   pub groups : new.wire.groups ≡ old.wire.groups
 
 -- a take where there are none asks nothing, and finds nothing
@@ -31,6 +52,16 @@ abbrev pub TakesIfNews : {S C : Type 0} → Bool → (S → Option (List SocketC
 TakesIfNews true calls_of old new port room result =
     TakesAtNews calls_of old new port room result
 TakesIfNews false calls_of old new port room result = (result ≡ Ok None) × (new ≡ old)
+
+-- a take asks the system for news first, or doesn't; then it takes what there are news of
+pub record TakesSo {S C : Type 0} (calls_of : S → Option (List SocketCall))
+    (old new : RestingWire S C) (port : Port) (room : List ℕ)
+    (result : Result (Option (Place × ℕ)) WireFault) : Type 0 where
+  pub looked : RestingWire S C
+  pub looks : LooksIf (looks_first old.heard old.goes_on
+      (has_news old.news (socket_of old.wire.groups port))) calls_of old looked
+  pub takes : TakesIfNews (has_news looked.news (socket_of looked.wire.groups port)) calls_of
+      looked new port room result
 
 -- a rest of at most that many microseconds: its step is that of what is left of it, and the clock
 -- is read where it begins and where it ends

@@ -4,7 +4,7 @@ ghost use Rattle.std.specs.Prelude.{◌≡◌, ◌<◌, ◌≤◌, ◌++◌, len
 ghost use Rattle.std.specs.Prelude.{IfSome, OnErr, false, true, slice_set};
 ghost use Rattle.trdp_daemon.specs.News.{has_news};
 ghost use Rattle.trdp_daemon.specs.RestSteps.{is_breathless};
-ghost use Rattle.trdp_daemon.specs.RestingWires.{RestsSo, TakesIfNews};
+ghost use Rattle.trdp_daemon.specs.RestingWires.{RestsSo, TakesSo};
 ghost use Rattle.trdp_daemon.specs.Sockets.{MadeInTurn, binds_of, watches_of};
 ghost use Rattle.trdp_daemon.specs.Sockets.{network_binds_of, network_watches_of, socket_of};
 ghost use Rattle.trdp_daemon.specs.SocketWires.{GivesAtSocket};
@@ -46,7 +46,9 @@ const BREATH: u64 = 50;
 /// are news of each port. News end at a take that found nothing. What arrives before that take is
 /// found by it. What arrives after it is an edge, which the next wait reports, whether it had
 /// begun before or not. What the system reports twice is taken once. A wait comes in each rest
-/// that isn't cut short, and in each turn that has none but the first after a rest.
+/// that isn't cut short, and in each turn that has none but the first after a rest: behind what
+/// was heard in it, at the first port of which there are no news, or else at its end. So a
+/// datagram that comes while another one is handled is taken in the same turn.
 #[derive(Drop)]
 pub struct RestingWire<S, C> {
     /// The ports.
@@ -57,11 +59,12 @@ pub struct RestingWire<S, C> {
     pub(crate) news: [bool; SOCKETS_MAX],
     /// Whether something came or failed at a take since the latest rest.
     pub(crate) heard: bool,
-    /// Whether a turn without a rest goes on without asking the system for news. The first after a
-    /// rest does, so that something that comes alone costs no more calls.
+    /// Whether this turn goes on without asking the system for news, if it has no rest. The first
+    /// after a rest does, so that something that comes alone costs no more calls, and one that has
+    /// asked.
     pub(crate) goes_on: bool,
-    /// The reading of the clock when news were asked for the first time without a rest; None where
-    /// none were since the latest rest.
+    /// The reading of the clock at the end of the first turn without a rest; None where each since
+    /// the latest rest had one.
     pub(crate) busy: Option<u64>,
     /// The reading of the clock when the latest rest ended; None before the first.
     pub(crate) rested: Option<u64>,
@@ -118,11 +121,13 @@ impl<'a, R: Net + time::Clock> RestingWire<SystemSockets<'a, R>, RunClock<'a, R>
 }
 
 impl<S: Sockets, C: Clock + Drop> RestingWire<S, C> {
+    ghost use Rattle.trdp_daemon.specs.News.{has_news};
     ghost use Rattle.trdp_daemon.specs.RestSteps.{Breathes, PausesSo};
-    ghost use Rattle.std.specs.Prelude.{◌≡◌, ◌++◌, IfOk, IfErr, None, Some};
-    ghost use Rattle.trdp_daemon.specs.Sockets.{MadeInTurn, binds_of, watches_of};
+    ghost use Rattle.std.specs.Prelude.{◌≡◌, ◌<◌, ◌≤◌, ◌++◌, length};
+    ghost use Rattle.std.specs.Prelude.{IfOk, IfErr, IfSome, OnErr, None, Some};
+    ghost use Rattle.trdp_daemon.specs.Sockets.{MadeInTurn, binds_of, watches_of, socket_of};
     ghost use Rattle.trdp_daemon.specs.Sockets.{network_binds_of, network_watches_of};
-    ghost use Rattle.trdp_daemon.specs.RestingWires.{IsFresh};
+    ghost use Rattle.trdp_daemon.specs.RestingWires.{IsFresh, LooksIf, TakesIfNews, looks_first};
 
     /// Binds sockets at the ports that a configuration names, as [`UdpWire::open`] does, and then
     /// has waits end when a datagram comes at one of them.
@@ -208,6 +213,49 @@ impl<S: Sockets, C: Clock + Drop> RestingWire<S, C> {
         &self.clock
     }
 
+    /// Asks the system for news at a take at a port of which there are none, where something was
+    /// heard in this turn, and the turn doesn't go on without asking.
+    fn look_first(&mut self, port: Port)
+        ensures looks { LooksIf (looks_first self.old.heard self.old.goes_on
+            (has_news self.old.news (socket_of self.old.wire.groups port))) S.calls
+            self.old self.new }
+        ensures failures { self.new.wire.failures ≡ self.old.wire.failures }
+        ensures refusal { self.new.wire.refusal ≡ self.old.wire.refusal }
+    {
+        if self.heard && !self.goes_on && !self.has_news(port) {
+            self.wire.sockets.wait(0, &mut self.news);
+            self.goes_on = true;
+        }
+    }
+
+    /// Takes the next datagram at a port, if there are news of it.
+    ///
+    /// # Errors
+    /// As [`Wire::take`].
+    fn take_news(
+        &mut self,
+        port: Port,
+        room: &mut [u8],
+    ) -> Result<Option<(Place, usize)>, WireFault>
+        ensures within { IfOk result (λ found. IfSome found (λ f. f.1 ≤ length room.new)) }
+        ensures fault { OnErr result (self.old.wire.failures < self.new.wire.failures) }
+        ensures takes { TakesIfNews
+            (has_news self.old.news (socket_of self.old.wire.groups port)) S.calls
+            self.old self.new port room.new result }
+        ensures refusal { self.new.wire.refusal ≡ self.old.wire.refusal }
+    {
+        if !self.has_news(port) {
+            return Ok(None);
+        }
+        let (found, heard) = self.wire.ask(port, room);
+        if heard {
+            self.heard = true;
+        } else {
+            self.set_news(port, false);
+        }
+        found
+    }
+
     /// Makes the pause of a step of a rest that begins at this reading of the clock.
     fn pause(&mut self, step: RestStep, reading: u64)
         ensures pauses { PausesSo step reading
@@ -219,8 +267,7 @@ impl<S: Sockets, C: Clock + Drop> RestingWire<S, C> {
         ensures goes_on { self.new.goes_on ≡ self.old.goes_on }
     {
         match step {
-            RestStep::GoOn => {}
-            RestStep::Look => self.breathe(reading),
+            RestStep::GoOn | RestStep::Look => self.breathe(reading),
             RestStep::Sleep(micros) => {
                 self.clock.sleep(micros);
                 self.busy = None;
@@ -264,21 +311,11 @@ impl<S: Sockets, C: Clock + Drop> Wire for RestingWire<S, C> {
     fn take(&mut self, port: Port, room: &mut [u8]) -> Result<Option<(Place, usize)>, WireFault>
         ensures within { IfOk result (λ found. IfSome found (λ f. f.1 ≤ length room.new)) }
         ensures fault { OnErr result (self.old.wire.failures < self.new.wire.failures) }
-        ensures takes { TakesIfNews
-            (has_news self.old.news (socket_of self.old.wire.groups port)) S.calls
-            self.old self.new port room.new result }
+        ensures takes { TakesSo S.calls self.old self.new port room.new result }
         ensures refusal { self.new.wire.refusal ≡ self.old.wire.refusal }
     {
-        if !self.has_news(port) {
-            return Ok(None);
-        }
-        let (found, heard) = self.wire.ask(port, room);
-        if heard {
-            self.heard = true;
-        } else {
-            self.set_news(port, false);
-        }
-        found
+        self.look_first(port);
+        self.take_news(port, room)
     }
 
     fn give(&mut self, port: Port, to: Place, bytes: &[u8]) -> Result<(), WireFault>

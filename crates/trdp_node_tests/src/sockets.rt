@@ -275,7 +275,8 @@ fn works_and_rests(rt: &(impl Abort + AllocGlobal), wire: &mut Resting) {
 
 /// A wire that rests reads no port again where it found nothing, before the system reports it. It
 /// asks the system in each turn without a rest but the first, and sleeps for a moment where there
-/// was none for 50 milliseconds.
+/// was none for 50 milliseconds. Where something was heard in such a turn, it asks behind that, at
+/// the first port of which there are no news, and then no more.
 fn asks_where_news_are(rt: &(impl Abort + AllocGlobal), wire: &mut Resting) {
     let mut room = [0; 16];
     for found in [true, false, false] {
@@ -285,11 +286,21 @@ fn asks_where_news_are(rt: &(impl Abort + AllocGlobal), wire: &mut Resting) {
     for _turn in 0..3 {
         wire.rest(0);
     }
+    for (port, found) in [
+        (Port::Pd, true),
+        (Port::Control(0), false),
+        (Port::Control(0), false),
+    ] {
+        let taken = wire.take(port, &mut room);
+        same(rt, "in one turn", taken != Ok(None), found);
+    }
+    wire.rest(0);
     let rows = wire.sockets().rows();
-    same(rt, "calls", rows.len(), 18);
+    same(rt, "calls", rows.len(), 20);
     for i in [16, 17] {
         same(rt, i, is_wait(rows.get(i), 0, &[0, 1, 2]), true);
     }
+    same(rt, 19, is_wait(rows.get(19), 0, &[1, 2]), true);
     same(rt, "sleeps", wire.clock().sleeps(), [50].as_slice());
 }
 
