@@ -4,9 +4,11 @@ use Rattle.std.specs.Prelude.{Option, Some, None, Result, Ok, Err, Bool, true, f
 use Rattle.std.specs.Prelude.{option_map, is_err}
 use Rattle.std.specs.Prelude.{slice_index_or, slice_set}
 use Rattle.trdp_base.specs.declared.place.Place.{Place}
+use Rattle.trdp_lines.specs.Askings.{AsksSeats, AsksSpeaker, IfNothing}
 use Rattle.trdp_lines.specs.Connections.{ConnectionCall}
 use Rattle.trdp_lines.specs.OperatorPaths.{HandsInNextLine, OperatorState, SaysToSeat, has_seat}
 use Rattle.trdp_lines.specs.Paths.{HandsInNext, PathState, SaysTo, left_at, speaks}
+use Rattle.trdp_lines.specs.declared.path_fault.AcceptFault.{AcceptFault}
 use Rattle.trdp_lines.specs.declared.path_fault.LostText.{LostText}
 use Rattle.trdp_daemon.specs.declared.fault.WireFault.{WireFault}
 use Rattle.trdp_daemon.specs.declared.port.Port.{Port}
@@ -26,7 +28,7 @@ abbrev pub placed : ℕ × ℕ → Place × ℕ
 placed found = (place_of_number found.0, found.1)
 
 -- a take at one of the network's ports is a take of the network, by which the applications at these
--- places had ended
+-- places had ended; it fails where that did, unless the count of failures is at its last value
 pub record TakesOverNetwork (takings takings_then : Option (List Taking)) (port : Port)
     (ended : Place → Bool) (result : Result (Option (Place × ℕ)) WireFault)
     (room_then : List ℕ) (failures : ℕ) : Type 0 where
@@ -46,31 +48,38 @@ pub record GivesOverNetwork (gives gives_then : Option (List Give)) (port : Port
 abbrev pub control_at : {C : Type 0} → List (Option (PathState C)) → ℕ → Option (PathState C)
 control_at controls slot = slice_index_or controls slot None
 
--- a take at a path handed in what is next there, from the place of the connection that says it
+-- a take at a path handed in what is next there, from the place of the connection that says it;
+-- it fails where the system refused a connection and nothing is there, unless the count of failures
+-- is at its last value
 pub record TakesText {C : Type 0} (calls_of : C → Option (List ConnectionCall))
     (path path_then : PathState C) (room : ℕ) (result : Result (Option (Place × ℕ)) WireFault)
-    (room_then : List ℕ) : Type 0 where
-  pub found : Option (ℕ × ℕ)
+    (room_then : List ℕ) (failures : ℕ) : Type 0 where
+  pub taken : Result (Option (ℕ × ℕ)) AcceptFault
   pub next : HandsInNext (calls_of path.connections) (calls_of path_then.connections)
-      (left_at path) (left_at path_then) room found room_then
-  pub answer : found_in result ≡ option_map placed found
+      (left_at path) (left_at path_then) room (found_in taken) room_then
+  pub asked : IfNothing taken (λ refused. AsksSpeaker (calls_of path.connections)
+      (calls_of path_then.connections) path.waiting path.came path_then.speaker.number refused)
+  pub answer : found_in result ≡ option_map placed (found_in taken)
+  pub fault : is_err result ≡ is_err taken && nat_lt failures (2 ^ 64 - 1)
 
 -- the same of a control port that may have no path, where nothing ever comes
 abbrev pub TakesAtPath : {C : Type 0} → (calls_of : C → Option (List ConnectionCall))
     → (path path_then : Option (PathState C)) → (room : ℕ)
-    → Result (Option (Place × ℕ)) WireFault → (room_then : List ℕ) → Type 0
-TakesAtPath calls_of None path_then room result room_then =
+    → Result (Option (Place × ℕ)) WireFault → (room_then : List ℕ) → (failures : ℕ) → Type 0
+TakesAtPath calls_of None path_then room result room_then failures =
     (result ≡ Ok None) × (path_then ≡ None)
-TakesAtPath calls_of (Some path) None room result room_then = ⊥
-TakesAtPath calls_of (Some path) (Some path_then) room result room_then =
-    TakesText calls_of path path_then room result room_then
+TakesAtPath calls_of (Some path) None room result room_then failures = ⊥
+TakesAtPath calls_of (Some path) (Some path_then) room result room_then failures =
+    TakesText calls_of path path_then room result room_then failures
 
 -- a take at the control port of a slot is one at its path, and of all paths it changes this alone
 pub record TakesAtControl {C : Type 0} (calls_of : C → Option (List ConnectionCall)) (slot : ℕ)
     (controls controls_then : List (Option (PathState C))) (room : ℕ)
-    (result : Result (Option (Place × ℕ)) WireFault) (room_then : List ℕ) : Type 0 where
+    (result : Result (Option (Place × ℕ)) WireFault) (room_then : List ℕ) (failures : ℕ)
+    : Type 0 where
   pub path_then : Option (PathState C)
   pub takes : TakesAtPath calls_of (control_at controls slot) path_then room result room_then
+      failures
   pub others : controls_then ≡ slice_set controls slot path_then
 
 -- a text for a place was said to the connection of that place, if there is a path, and that is the
@@ -101,24 +110,28 @@ pub record GivesAtControl {C : Type 0} (calls_of : C → Option (List Connection
   pub says : SaysAtControl calls_of slot controls controls_then to text answer
   pub fault : is_err result ≡ is_err answer && nat_lt failures (2 ^ 64 - 1)
 
--- a take at the operator's path handed in the next line of a connection, from its place
+-- a take at the operator's path handed in the next line of a connection, from its place; it fails
+-- as one at the path of a slot
 pub record TakesLine {C : Type 0} (calls_of : C → Option (List ConnectionCall))
     (path path_then : OperatorState C) (room : ℕ) (result : Result (Option (Place × ℕ)) WireFault)
-    (room_then : List ℕ) : Type 0 where
-  pub found : Option (ℕ × ℕ)
+    (room_then : List ℕ) (failures : ℕ) : Type 0 where
+  pub taken : Result (Option (ℕ × ℕ)) AcceptFault
   pub next : HandsInNextLine (calls_of path.connections) (calls_of path_then.connections)
-      path.seats path_then.seats room found room_then
-  pub answer : found_in result ≡ option_map placed found
+      path.seats path_then.seats room (found_in taken) room_then
+  pub asked : IfNothing taken (λ refused. AsksSeats (calls_of path.connections)
+      (calls_of path_then.connections) path.came path_then.seats refused)
+  pub answer : found_in result ≡ option_map placed (found_in taken)
+  pub fault : is_err result ≡ is_err taken && nat_lt failures (2 ^ 64 - 1)
 
 -- the same of an operator's port that may have no path, where nothing ever comes
 abbrev pub TakesAtOperator : {C : Type 0} → (calls_of : C → Option (List ConnectionCall))
     → (operator operator_then : Option (OperatorState C)) → (room : ℕ)
-    → Result (Option (Place × ℕ)) WireFault → (room_then : List ℕ) → Type 0
-TakesAtOperator calls_of None operator_then room result room_then =
+    → Result (Option (Place × ℕ)) WireFault → (room_then : List ℕ) → (failures : ℕ) → Type 0
+TakesAtOperator calls_of None operator_then room result room_then failures =
     (result ≡ Ok None) × (operator_then ≡ None)
-TakesAtOperator calls_of (Some path) None room result room_then = ⊥
-TakesAtOperator calls_of (Some path) (Some path_then) room result room_then =
-    TakesLine calls_of path path_then room result room_then
+TakesAtOperator calls_of (Some path) None room result room_then failures = ⊥
+TakesAtOperator calls_of (Some path) (Some path_then) room result room_then failures =
+    TakesLine calls_of path path_then room result room_then failures
 
 -- a text for a place was said to the connection of that place at the operator's path, if there is
 -- one, and it has a seat there
@@ -197,14 +210,14 @@ TakesAtPort takings_in gives_in ended_in calls_of has_news old new (MdGroup grou
     × (new.operator ≡ old.operator) × (new.controls.items ≡ old.controls.items)
 TakesAtPort takings_in gives_in ended_in calls_of has_news old new Operator room result room_then =
     IfNews has_news old new result
-    (TakesAtOperator calls_of old.operator new.operator room result room_then
+    (TakesAtOperator calls_of old.operator new.operator room result room_then old.failures
     × IsUnasked takings_in gives_in old.network new.network
     × (new.controls.items ≡ old.controls.items))
 TakesAtPort takings_in gives_in ended_in calls_of has_news old new (Control slot) room result
     room_then =
     IfNews has_news old new result
     (TakesAtControl calls_of slot old.controls.items new.controls.items room result room_then
-    × IsUnasked takings_in gives_in old.network new.network × (new.operator ≡ old.operator))
+    old.failures × IsUnasked takings_in gives_in old.network new.network × (new.operator ≡ old.operator))
 
 -- a give at a port: to the network, or at the operator's path or that of a slot, and nowhere else
 abbrev pub GivesAtPort : {N C : Type 0} → (gives_in : N → Option (List Give))

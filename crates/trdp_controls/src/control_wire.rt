@@ -101,7 +101,7 @@ impl<N: Wire, C: Connections> ControlWire<N, C> {
     ) -> Result<Option<(Place, usize)>, WireFault>
         ensures within { IfOk result (λ found. IfSome found (λ f. f.1 ≤ length room.new)) }
         ensures takes { TakesAtControl C.calls slot self.old.controls.items
-            self.new.controls.items (length room.old) result room.new }
+            self.new.controls.items (length room.old) result room.new self.old.failures }
         ensures fault { OnErr result (self.old.failures < self.new.failures) }
         ensures network { IsUnasked N.takings N.gives self.old.network self.new.network }
         ensures operator { self.new.operator ≡ self.old.operator }
@@ -123,7 +123,7 @@ impl<N: Wire, C: Connections> ControlWire<N, C> {
     fn take_operator(&mut self, room: &mut [u8]) -> Result<Option<(Place, usize)>, WireFault>
         ensures within { IfOk result (λ found. IfSome found (λ f. f.1 ≤ length room.new)) }
         ensures takes { TakesAtOperator C.calls self.old.operator self.new.operator
-            (length room.old) result room.new }
+            (length room.old) result room.new self.old.failures }
         ensures fault { OnErr result (self.old.failures < self.new.failures) }
         ensures network { IsUnasked N.takings N.gives self.old.network self.new.network }
         ensures controls { self.new.controls ≡ self.old.controls }

@@ -1,7 +1,7 @@
 //! One call at a path of a wire, of which there may be none.
 
 ghost use Rattle.std.specs.Prelude.{◌≡◌, ◌<◌, ◌≤◌, ◌-◌, ◌^◌, length, IfOk, IfSome, OnErr, None};
-ghost use Rattle.std.specs.Prelude.{is_err, nat_lt};
+ghost use Rattle.std.specs.Prelude.{◌&&◌, is_err, nat_lt};
 ghost use Rattle.std.specs.Option.{option_map};
 ghost use Rattle.trdp_controls.specs.ControlWires.{SaysAtControl, SaysAtOperator, SaysAtPath};
 ghost use Rattle.trdp_controls.specs.ControlWires.{control_at, has_ended_at};
@@ -36,6 +36,7 @@ fn answer_of(
     failures: &mut u64,
 ) -> Result<Option<(Place, usize)>, WireFault>
     ensures found { found_in result ≡ option_map placed (found_in taken) }
+    ensures fails { is_err result ≡ is_err taken && nat_lt failures.old (2 ^ 64 - 1) }
     ensures fault { OnErr result (failures.old < failures.new) }
 {
     match taken {
@@ -54,7 +55,7 @@ pub(crate) fn take_line<C: Connections>(
 ) -> (Result<Option<(Place, usize)>, WireFault>, bool)
     ensures within { IfOk result.0 (λ found. IfSome found (λ f. f.1 ≤ length room.new)) }
     ensures takes { TakesAtPath C.calls control.old control.new (length room.old) result.0
-        room.new }
+        room.new failures.old }
     ensures fault { OnErr result.0 (failures.old < failures.new) }
 {
     let Some(path) = control else {
@@ -74,7 +75,7 @@ pub(crate) fn take_operators_line<C: Connections>(
 ) -> (Result<Option<(Place, usize)>, WireFault>, bool)
     ensures within { IfOk result.0 (λ found. IfSome found (λ f. f.1 ≤ length room.new)) }
     ensures takes { TakesAtOperator C.calls operator.old operator.new (length room.old) result.0
-        room.new }
+        room.new failures.old }
     ensures fault { OnErr result.0 (failures.old < failures.new) }
 {
     let Some(path) = operator else {
