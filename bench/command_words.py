@@ -77,7 +77,7 @@ def main(program: str = f"{TOP}/crates/trdpd/out/trdpd") -> int:
         rows = cases(pathlib.Path(folder))
         for words, status, output, errors in rows:
             ran = subprocess.run([program, *words], stdin=subprocess.DEVNULL, capture_output=True, text=True,
-                                 timeout=20)
+                                 timeout=60)
             if (ran.returncode, ran.stdout, ran.stderr) != (status, output, errors):
                 faults += 1
                 print(f"{' '.join(words)}: {ran.returncode}, {ran.stdout!r}, {ran.stderr!r}")

@@ -210,7 +210,7 @@ def said(program: str, config: str | bytes) -> Said:
     with tempfile.NamedTemporaryFile("wb", suffix=".toml") as file:
         file.write(config if isinstance(config, bytes) else config.encode())
         file.flush()
-        ran = subprocess.run([program, "check", file.name], capture_output=True, text=True, timeout=20)
+        ran = subprocess.run([program, "check", file.name], capture_output=True, text=True, timeout=60)
         return ran.returncode, ran.stdout, ran.stderr
 
 

@@ -17,7 +17,7 @@ from typing import IO
 
 TOP = os.path.dirname(os.path.dirname(os.path.abspath(__file__)))
 # How many seconds an answer is waited for: it takes less than a millisecond on a machine that does nothing else.
-PATIENCE = 10.0
+PATIENCE = 60.0
 # How long nothing has to come after a piece of a line.
 QUIET = 0.1
 LINES: list[tuple[str, list[str]]] = [

@@ -67,7 +67,7 @@ def run(words: list[str], folder: pathlib.Path, **changes: str) -> subprocess.Co
     """Runs a command in a folder, over an environment of its own."""
     environment = {"PATH": os.environ["PATH"], "PYTHONDONTWRITEBYTECODE": "1", **changes}
     return subprocess.run(words, cwd=folder, env=environment, stdin=subprocess.DEVNULL, capture_output=True, text=True,
-                          timeout=60)
+                          timeout=600)
 
 
 def look_at(words: list[str], folder: pathlib.Path, begins: str, **changes: str) -> None:

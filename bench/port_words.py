@@ -75,7 +75,7 @@ def said(program: str, config: str) -> tuple[int, str, str]:
         file.write(config)
         file.flush()
         # A daemon whose ports are all bound goes on.
-        words = ["timeout", "20", program, "daemon", file.name]
+        words = ["timeout", "60", program, "daemon", file.name]
         ran = subprocess.run(words, stdin=subprocess.DEVNULL, capture_output=True, text=True)
         return ran.returncode, ran.stdout, ran.stderr
 

@@ -14,6 +14,7 @@ from __future__ import annotations
 
 import os
 import random
+import resource
 import socket
 import subprocess
 import sys
@@ -73,7 +74,7 @@ class Peer:
             it.bind((HOME, 0))
         self.stranger.setblocking(False)
         self.sink.setblocking(False)
-        self.application.settimeout(20)
+        self.application.settimeout(60)
 
     def send(self, sender: socket.socket, kind: str, datagram: bytes) -> None:
         sender.sendto(datagram, (HOME, self.ports[kind]))
@@ -114,10 +115,24 @@ def lengths_at_random(source: random.Random) -> list[int]:
 
 
 def seconds_a_turn(program: str, config: str) -> float:
-    """What an idle turn takes."""
-    turns, start = 1_000_000, time.monotonic()
+    """What an idle turn takes of a processor: it takes longer where others have that, and never less."""
+    turns, before = 1_000_000, resource.getrusage(resource.RUSAGE_CHILDREN)
     subprocess.run([program, "serve", config, "--turns", str(turns)], check=True, stdout=subprocess.DEVNULL)
-    return (time.monotonic() - start) / turns
+    after = resource.getrusage(resource.RUSAGE_CHILDREN)
+    return (after.ru_utime + after.ru_stime - before.ru_utime - before.ru_stime) / turns
+
+
+def await_ports(ran: subprocess.Popen[str], ports: dict[str, int]) -> None:
+    """Waits until the daemon has its ports, or has ended."""
+    home, end = socket.inet_aton(HOME)[::-1].hex().upper(), time.monotonic() + 60
+    wanted = {f"{home}:{port:04X}" for port in ports.values()}
+    while ran.poll() is None:
+        with open("/proc/net/udp") as table:
+            if wanted <= {line.split()[1] for line in table}:
+                return
+        if time.monotonic() > end:
+            raise Wrong("it doesn't bind its ports")
+        time.sleep(0.01)
 
 
 def play(peer: Peer, pid: int, datagrams: int, seconds: int,
@@ -143,11 +158,11 @@ def main(words: list[str]) -> None:
         turns = min(int(1.5 * seconds / seconds_a_turn(program, config)), 2**32 - 1)
         ran = subprocess.Popen([program, "serve", config, "--turns", str(turns)], stdout=subprocess.PIPE, text=True)
         try:
-            time.sleep(0.5)
+            await_ports(ran, ports)
             peer = Peer(ports)
             before, after, took = play(peer, ran.pid, datagrams, seconds, random.Random(seed))
             alive = ran.poll() is None
-            totals = ran.communicate(timeout=20 * seconds)[0]
+            totals = ran.communicate(timeout=100 * seconds)[0]
         finally:
             ran.kill()
     print(f"{peer.count} datagrams, {peer.bytes} bytes, {peer.answers} answers in {took:.0f} s; "

@@ -32,8 +32,8 @@ ERRORS = ("EINTR", "ENOMEM", "EMFILE", "ECONNRESET")
 # How many calls are refused at most, one a run: a read that finds nothing is a call too, and there are as many as there
 # are turns.
 MOST = 40
-# Seconds: a connection that wasn't accepted is accepted in a turn of the next second.
-PATIENCE = 5
+# Seconds: a connection that wasn't accepted is accepted in a turn of the next second, or later on a slow machine.
+PATIENCE = 30
 CONFIG = f"""\
 [node]
 address = "{HOST}"

@@ -7,6 +7,7 @@ from __future__ import annotations
 
 import socket
 import threading
+import time
 
 Place = tuple[str, int]
 
@@ -74,7 +75,12 @@ class Relay(threading.Thread):
             self.left[way] = count
 
     def release(self) -> None:
-        """Gives what was held back."""
+        """Gives what was held back, as soon as all is that is to be."""
+        end = time.monotonic() + 20
+        while self.left["hold"]:
+            if time.monotonic() > end:
+                raise OSError("nothing comes that could be held back")
+            time.sleep(0.002)
         with self.lock:
             for text in self.held:
                 self.pass_on(text)

@@ -15,6 +15,9 @@ bool check(bool is_so, const char *what, const char *file, int line);
 bool check_error(enum trdp_slot_error error, enum trdp_slot_error wanted, const char *what,
     const char *file, int line);
 
+/* After so many seconds a child of the test ends, whatever happens. */
+enum { CHILD_SECONDS = 600 };
+
 /* A slot with its buffers. */
 struct test_slot {
     struct trdp_slot slot;

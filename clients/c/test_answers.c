@@ -37,7 +37,7 @@ static void stale_answers(void)
     at_port.slot.terms.tries = 3;
     CHECK_ERROR(trdp_slot_pull(&at_port.slot, 1), TRDP_SLOT_TIMEOUT);
     CHECK(at_port.slot.tried == 3 && trdp_slot_now() - start >= 60);
-    at_port.slot.terms.timeout = 2000;
+    at_port.slot.terms.timeout = ANSWER;
     at_port.slot.terms.tries = 1;
 }
 
@@ -59,7 +59,7 @@ static void kept_indications(void)
     CHECK_ERROR(trdp_slot_pull(&at_port.slot, 1), TRDP_SLOT_OK);
     CHECK(at_port.slot.kept_length > 0 && next(TRDP_SLOT_OK, 0).kind == TRDP_SLOT_FELL_SILENT);
     CHECK(next(TRDP_SLOT_OK, 0).handle == 2 && next(TRDP_SLOT_OK, 0).reason == TRDP_SLOT_DONE);
-    CHECK(at_port.slot.kept_length == 0 && next(TRDP_SLOT_OK, 2000).handle == 4);
+    CHECK(at_port.slot.kept_length == 0 && next(TRDP_SLOT_OK, ANSWER).handle == 4);
     next(TRDP_SLOT_TIMEOUT, 10);
     /* Room for two of eleven bytes and four each, and not for a third. */
     size_t room = at_port.slot.terms.kept_room;
@@ -92,6 +92,7 @@ static void overlong(void)
     CHECK(next(TRDP_SLOT_LOST, 0).lost == 1);
     memcpy(text + front + 5000, "\n", 2);
     tell('!', text);
+    latest();
     CHECK(next(TRDP_SLOT_LOST, 100).lost == 1);
     next(TRDP_SLOT_TIMEOUT, 0);
 }
@@ -116,9 +117,11 @@ static void flood(void)
     int room = 4096;
     uint32_t lost = 0, told_of = 0;
     setsockopt(at_port.slot.socket, SOL_SOCKET, SO_RCVBUF, &room, sizeof room);
-    for (int i = 0; i < 200; i++)
+    for (int i = 1; i <= 200; i++) {
         tell('!', "0 silent 1\n");
-    latest();
+        if (i % 50 == 0)
+            latest(); /* so that the daemon's buffer isn't full too */
+    }
     take_all(&told_of, &lost);
     CHECK(told_of > 0 && told_of < 200);
     tell('!', "0 silent 1\n");
@@ -136,11 +139,14 @@ static void reset(void)
     uint32_t handle = 0, stale = at_port.slot.stale;
     struct trdp_slot_requester requester = { .com_id = 1 };
     at_port.slot.terms.timeout = 300;
-    at_port.slot.terms.tries = 3;
+    at_port.slot.terms.tries = TRIES;
     tell('=', "0 silent 1\n|0 done\n");
     tell('%', "1");
     CHECK_ERROR(trdp_slot_reset(&at_port.slot), TRDP_SLOT_OK);
-    CHECK(at_port.slot.tried == 2 && next(TRDP_SLOT_OK, 0).handle == 1);
+    CHECK(at_port.slot.tried >= 2 && at_port.slot.tried < TRIES);
+    CHECK(next(TRDP_SLOT_OK, 0).handle == 1);
+    at_port.slot.terms.timeout = 600;
+    at_port.slot.terms.tries = 3;
     tell('=', "");
     CHECK_ERROR(trdp_slot_reset(&at_port.slot), TRDP_SLOT_TIMEOUT);
     CHECK(at_port.slot.tried == 3 && had("reset"));
@@ -152,7 +158,7 @@ static void reset(void)
     tell('=', "0 handle 7\n");
     CHECK_ERROR(trdp_slot_openpull(&at_port.slot, &requester, &handle), TRDP_SLOT_TIMEOUT);
     CHECK(at_port.slot.tried == 0 && handle == 0 && had("reset"));
-    at_port.slot.terms.timeout = 2000;
+    at_port.slot.terms.timeout = ANSWER;
     CHECK_ERROR(trdp_slot_openpull(&at_port.slot, &requester, &handle), TRDP_SLOT_OK);
     CHECK(handle == 7 && at_port.slot.tried == 1 && at_port.slot.stale == stale);
     CHECK(next(TRDP_SLOT_OK, 0).handle == 1);
@@ -173,7 +179,7 @@ static void late_answers(void)
     tell('=', "");
     at_port.slot.terms.timeout = 20;
     CHECK_ERROR(trdp_slot_openpull(&at_port.slot, &requester, &handle), TRDP_SLOT_TIMEOUT);
-    at_port.slot.terms.timeout = 2000;
+    at_port.slot.terms.timeout = ANSWER;
     tell('=', "0 handle 8\n");
     tell('!', "0 handle 7\n"); /* which waits before the answer to the mark */
     CHECK_ERROR(trdp_slot_openpull(&at_port.slot, &requester, &handle), TRDP_SLOT_OK);
@@ -183,6 +189,7 @@ static void late_answers(void)
 /* A remark where a third of the lease has passed. */
 static void lease(void)
 {
+    uint32_t told_of = 0, lost = 0;
     tell('=', "0 done\n");
     CHECK_ERROR(trdp_slot_pull(&at_port.slot, 5), TRDP_SLOT_OK);
     next(TRDP_SLOT_TIMEOUT, 100);
@@ -191,9 +198,14 @@ static void lease(void)
     next(TRDP_SLOT_TIMEOUT, 0);
     CHECK(had("#"));
     CHECK_ERROR(trdp_slot_pull(&at_port.slot, 6), TRDP_SLOT_OK);
-    next(TRDP_SLOT_TIMEOUT, 100);
+    /* It says one while it waits too: until it has two answers, of which each is to one. */
+    tell('+', "0 silent 1\n");
+    CHECK(next(TRDP_SLOT_OK, ANSWER).handle == 1 && next(TRDP_SLOT_OK, ANSWER).handle == 1);
     CHECK(had("#"));
     at_port.slot.terms.lease = 0;
+    latest();
+    take_all(&told_of, &lost); /* the answers to further ones */
+    CHECK(lost == 0);
 }
 
 void test_answers(void)

@@ -51,7 +51,7 @@ target_link_libraries(in_cpp TrdpSlot::trdp_slot)
 def run(*words: object, **known: str) -> subprocess.CompletedProcess[str]:
     """Runs a command, with these in its environment."""
     line = [str(it) for it in words]
-    return subprocess.run(line, env=os.environ | known, capture_output=True, text=True, timeout=120)
+    return subprocess.run(line, env=os.environ | known, capture_output=True, text=True, timeout=600)
 
 
 @unittest.skipUnless(shutil.which("cmake") and shutil.which("make"), "cmake isn't there, or make")

@@ -38,6 +38,24 @@ bool is_told(struct trdp_slot *slot, enum trdp_slot_kind kind, uint32_t handle)
     return false;
 }
 
+bool comes_to_tell(struct trdp_slot *slot, enum trdp_slot_kind kind, uint32_t handle)
+{
+    int64_t until = trdp_slot_now() + WAIT;
+    while (trdp_slot_now() < until
+        && trdp_slot_next(slot, WAIT, &told, payload, sizeof payload) == TRDP_SLOT_OK
+        && (told.kind == TRDP_SLOT_FELL_SILENT || told.kind == TRDP_SLOT_ALIVE))
+        if (told.kind == kind && told.handle == handle)
+            return true;
+    printf("    at last: %s %u\n", trdp_slot_kind_text(told.kind), (unsigned)told.handle);
+    return false;
+}
+
+void drop_told(struct trdp_slot *slot)
+{
+    while (trdp_slot_next(slot, 0, &told, payload, sizeof payload) == TRDP_SLOT_OK)
+        continue;
+}
+
 bool is_closed(struct trdp_slot *slot, uint32_t handle, enum trdp_slot_reason reason)
 {
     if (!is_told(slot, TRDP_SLOT_CLOSED, handle))
@@ -65,11 +83,11 @@ bool shows(struct trdp_slot *slot, uint32_t handle, enum trdp_slot_state state,
         && (length == 0 || memcmp(found, bytes, length) == 0);
 }
 
-bool comes_to_show(struct trdp_slot *slot, uint32_t handle, const uint8_t *bytes,
-    size_t length)
+bool comes_to_show(struct trdp_slot *slot, uint32_t handle, enum trdp_slot_state state,
+    const uint8_t *bytes, size_t length)
 {
     int64_t until = trdp_slot_now() + WAIT;
-    while (!shows(slot, handle, TRDP_SLOT_VALID, bytes, length)) {
+    while (!shows(slot, handle, state, bytes, length)) {
         if (trdp_slot_now() > until)
             return false;
         poll(NULL, 0, 10);
@@ -90,45 +108,54 @@ struct trdp_slot_subscription subscription(bool keep)
         .time = 200000, .keep = keep };
 }
 
-/* A value on its way, a publisher that ends, and another one. */
-static void process_data(void)
+/* A value on its way. Answers the publisher, which has the doors open. */
+static uint32_t process_data(void)
 {
-    uint32_t publishes = 0, keeps = 0, zeroes = 0;
+    uint32_t publishes = 0, keeps = 0;
     struct trdp_slot_value value = { .length = 0 };
     struct trdp_slot_publisher terms = publisher();
-    struct trdp_slot_subscription keep = subscription(true), zero = subscription(false);
+    struct trdp_slot_subscription keep = subscription(true);
     keep.time = 0;
     CHECK_ERROR(trdp_slot_subscribe(other, &keep, &keeps), TRDP_SLOT_OK);
     CHECK(keeps == 1 && shows(other, keeps, TRDP_SLOT_NEVER, closed + 4, 3));
     CHECK_ERROR(trdp_slot_publish(door, &terms, &publishes), TRDP_SLOT_OK);
     CHECK_ERROR(trdp_slot_put(door, publishes, closed, sizeof closed), TRDP_SLOT_OK);
-    CHECK(publishes == 1 && comes_to_show(other, keeps, closed, sizeof closed));
+    CHECK(publishes == 1
+        && comes_to_show(other, keeps, TRDP_SLOT_VALID, closed, sizeof closed));
     CHECK_ERROR(trdp_slot_put(door, publishes, opened, sizeof opened), TRDP_SLOT_OK);
-    CHECK(comes_to_show(other, keeps, opened, sizeof opened));
+    CHECK(comes_to_show(other, keeps, TRDP_SLOT_VALID, opened, sizeof opened));
     CHECK_ERROR(trdp_slot_get(other, keeps, &value, payload, 2), TRDP_SLOT_CUT);
     CHECK(value.length == sizeof opened && value.counter > 0 && payload[1] == 2);
     CHECK_ERROR(trdp_slot_unsubscribe(other, keeps), TRDP_SLOT_OK);
     CHECK_ERROR(trdp_slot_get(other, keeps, &value, payload, 2), TRDP_SLOT_REFUSED_NO_HANDLE);
-    /* Two with a supervision time, which fall silent when the publisher ends. */
-    keep.time = zero.time;
+    return publishes;
+}
+
+/* Two subscriptions with a supervision time fall silent when the publisher ends, and one is alive
+ * with another one. */
+static void supervision(uint32_t publishes)
+{
+    uint32_t keeps = 0, zeroes = 0;
+    struct trdp_slot_publisher terms = publisher();
+    struct trdp_slot_subscription keep = subscription(true), zero = subscription(false);
     CHECK_ERROR(trdp_slot_subscribe(other, &keep, &keeps), TRDP_SLOT_OK);
     CHECK_ERROR(trdp_slot_subscribe(other, &zero, &zeroes), TRDP_SLOT_OK);
-    CHECK(comes_to_show(other, keeps, opened, sizeof opened));
-    CHECK(comes_to_show(other, zeroes, opened, sizeof opened));
-    while (trdp_slot_next(other, 0, &told, payload, 1) == TRDP_SLOT_OK)
-        continue; /* where the machine was slow */
+    CHECK(comes_to_show(other, keeps, TRDP_SLOT_VALID, opened, sizeof opened));
+    CHECK(comes_to_show(other, zeroes, TRDP_SLOT_VALID, opened, sizeof opened));
+    drop_told(other); /* where the machine was slow */
     CHECK_ERROR(trdp_slot_unpublish(door, publishes), TRDP_SLOT_OK);
-    CHECK(is_told(other, TRDP_SLOT_FELL_SILENT, keeps));
-    CHECK(is_told(other, TRDP_SLOT_FELL_SILENT, zeroes));
-    CHECK(shows(other, keeps, TRDP_SLOT_SILENT, opened, sizeof opened));
-    CHECK(shows(other, zeroes, TRDP_SLOT_SILENT, closed + 4, 3));
+    CHECK(comes_to_tell(other, TRDP_SLOT_FELL_SILENT, keeps));
+    CHECK(comes_to_tell(other, TRDP_SLOT_FELL_SILENT, zeroes));
+    CHECK(comes_to_show(other, keeps, TRDP_SLOT_SILENT, opened, sizeof opened));
+    CHECK(comes_to_show(other, zeroes, TRDP_SLOT_SILENT, closed + 4, 3));
     CHECK_ERROR(trdp_slot_unsubscribe(other, zeroes), TRDP_SLOT_OK);
     CHECK_ERROR(trdp_slot_publish(door, &terms, &publishes), TRDP_SLOT_OK);
     CHECK_ERROR(trdp_slot_put(door, publishes, closed, sizeof closed), TRDP_SLOT_OK);
-    CHECK(is_told(other, TRDP_SLOT_ALIVE, keeps));
-    CHECK(shows(other, keeps, TRDP_SLOT_VALID, closed, sizeof closed));
+    CHECK(comes_to_tell(other, TRDP_SLOT_ALIVE, keeps));
+    CHECK(comes_to_show(other, keeps, TRDP_SLOT_VALID, closed, sizeof closed));
     CHECK_ERROR(trdp_slot_unsubscribe(other, keeps), TRDP_SLOT_OK);
     CHECK_ERROR(trdp_slot_unpublish(door, publishes), TRDP_SLOT_OK);
+    drop_told(other);
 }
 
 /* The status of the doors as a struct. */
@@ -159,7 +186,7 @@ static void values(void)
     CHECK(shown.state == TRDP_SLOT_NEVER && seen.count == 0 && seen.obstacles == 0);
     CHECK_ERROR(trdp_slot_publish(door, &terms, &publishes), TRDP_SLOT_OK);
     CHECK_ERROR(trdp_slot_put_value(door, publishes, &status_dataset, &says), TRDP_SLOT_OK);
-    CHECK(comes_to_show(other, follows, (const uint8_t *)"\4\0\2\2\1\1\2", 7));
+    CHECK(comes_to_show(other, follows, TRDP_SLOT_VALID, (const uint8_t *)"\4\0\2\2\1\1\2", 7));
     CHECK_ERROR(trdp_slot_get_value(other, follows, &shown, &status_dataset, &seen), TRDP_SLOT_OK);
     CHECK(shown.state == TRDP_SLOT_VALID && seen.count == 4 && seen.obstacles == 0x0102);
     CHECK(memcmp(seen.states, says.states, sizeof says.states) == 0);
@@ -186,7 +213,7 @@ static void pull(void)
     CHECK_ERROR(trdp_slot_openpull(other, &requester, &pulls), TRDP_SLOT_OK);
     CHECK(shows(other, follows, TRDP_SLOT_NEVER, NULL, 0));
     CHECK_ERROR(trdp_slot_pull(other, pulls), TRDP_SLOT_OK);
-    CHECK(comes_to_show(other, follows, longest, TRDP_SLOT_VALUE));
+    CHECK(comes_to_show(other, follows, TRDP_SLOT_VALID, longest, TRDP_SLOT_VALUE));
     CHECK_ERROR(trdp_slot_openpull(other, &requester, &pulls), TRDP_SLOT_REFUSED_QUOTA);
     CHECK_ERROR(trdp_slot_pull(other, follows), TRDP_SLOT_REFUSED_WRONG_KIND);
     CHECK_ERROR(trdp_slot_closepull(other, pulls), TRDP_SLOT_OK);
@@ -269,7 +296,7 @@ void test_node(void)
     if (!test_open(&doors, "127.0.9.1", 18000, WAIT)
         || !test_open(&others, "127.0.9.2", 18000, WAIT))
         return;
-    process_data();
+    supervision(process_data());
     values();
     pull();
     data_refusals();

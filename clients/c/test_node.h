@@ -15,13 +15,19 @@ extern uint8_t payload[2048];
 
 extern const uint8_t closed[7], opened[7];
 
-enum { WAIT = 3000, PD = 17224, MD = 17225 };
+enum { WAIT = 10000, PD = 17224, MD = 17225 };
 
 /* Has the script do something. */
 void script(const char *what);
 
 /* Whether the next indication of a slot is of that kind and that object. */
 bool is_told(struct trdp_slot *slot, enum trdp_slot_kind kind, uint32_t handle);
+
+/* The same of a subscription, behind what it is told of silences where the machine is slow. */
+bool comes_to_tell(struct trdp_slot *slot, enum trdp_slot_kind kind, uint32_t handle);
+
+/* Drops the indications that are there. */
+void drop_told(struct trdp_slot *slot);
 
 /* Whether the next indication of a slot is that this object is over for that reason. */
 bool is_closed(struct trdp_slot *slot, uint32_t handle, enum trdp_slot_reason reason);
@@ -34,8 +40,8 @@ bool shows(struct trdp_slot *slot, uint32_t handle, enum trdp_slot_state state,
     const uint8_t *bytes, size_t length);
 
 /* The same, within some time. */
-bool comes_to_show(struct trdp_slot *slot, uint32_t handle, const uint8_t *bytes,
-    size_t length);
+bool comes_to_show(struct trdp_slot *slot, uint32_t handle, enum trdp_slot_state state,
+    const uint8_t *bytes, size_t length);
 
 /* What the doors publish, and what the other side subscribes to. */
 struct trdp_slot_publisher publisher(void);

@@ -78,17 +78,22 @@ int begins(int listener)
     return connection;
 }
 
-void child_does(void (*act)(int listener))
+void child_begins(void (*act)(int listener), int listener)
 {
-    int listener = listens();
     fflush(stdout);
     child = fork();
     if (child == 0) {
-        alarm(20);
+        alarm(CHILD_SECONDS);
         act(listener);
         _exit(0);
     }
-    close(listener);
+    if (listener >= 0)
+        close(listener);
+}
+
+void child_does(void (*act)(int listener))
+{
+    child_begins(act, listens());
 }
 
 bool child_is_done(void)
@@ -282,7 +287,7 @@ static void forbidden(void)
     if (getuid() == 0 && seteuid(0) != 0)
         abort();
     chmod(path, 0600);
-    CHECK(next(WAIT / 10) == TRDP_SLOT_TIMEOUT && slot->socket >= 0);
+    CHECK(next(500) == TRDP_SLOT_TIMEOUT && slot->socket >= 0);
     trdp_slot_close(slot);
     close(listener);
 }

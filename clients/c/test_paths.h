@@ -11,7 +11,7 @@ extern struct test_slot at_path;
 static struct trdp_slot *const slot = &at_path.slot;
 extern struct trdp_slot_indication told_at_path;
 
-enum { WAIT = 5000 };
+enum { WAIT = 20000 };
 
 /* Ends the child, and with it the test that waits for it. */
 void fail(const char *what);
@@ -32,7 +32,10 @@ void says(int connection, const char *text);
 /* The next connection, and its first line. */
 int begins(int listener);
 
-/* Starts a child that does this with what it listens by. */
+/* Starts a child that does this with what it listens by, or with -1. */
+void child_begins(void (*act)(int listener), int listener);
+
+/* Starts a child that does this, and listens already. */
 void child_does(void (*act)(int listener));
 
 /* Whether the child has done all of that. */

@@ -5,6 +5,10 @@
 
 static uint32_t listener, caller, replier;
 
+/* How long a request is open, in microseconds: one that ends by its time alone, so late the doors
+ * may be with what they do before; and one that ends otherwise. */
+enum { OPEN = 600000, LONG = 30000000 };
+
 /* Terms of a request in a session that no request was in. */
 static struct trdp_slot_caller request_terms(uint8_t expected, uint32_t time)
 {
@@ -43,22 +47,22 @@ static bool is_replied(enum trdp_slot_answer answer, int32_t status, size_t leng
 static void answers(void)
 {
     struct trdp_slot_place place;
-    CHECK(is_asked(1, 5000000, 0));
+    CHECK(is_asked(1, LONG, 0));
     CHECK_ERROR(trdp_slot_reply(door, replier, 2201, -1, closed, 1), TRDP_SLOT_REFUSED_STATUS);
     CHECK_ERROR(trdp_slot_reply(door, replier, 2201, 0, opened, 7), TRDP_SLOT_OK);
     CHECK(is_replied(TRDP_SLOT_MP, 0, 7) && memcmp(told.payload, opened, 7) == 0);
     CHECK(is_closed(other, caller, TRDP_SLOT_DONE));
     CHECK_ERROR(trdp_slot_reply(door, replier, 2201, 0, opened, 7), TRDP_SLOT_REFUSED_NO_HANDLE);
-    CHECK(is_asked(1, 5000000, 2));
+    CHECK(is_asked(1, LONG, 2));
     CHECK_ERROR(trdp_slot_replyerror(door, replier, 2201, 0), TRDP_SLOT_REFUSED_STATUS);
     CHECK_ERROR(trdp_slot_replyerror(door, replier, 2201, INT32_MIN), TRDP_SLOT_OK);
     CHECK(is_replied(TRDP_SLOT_ME, INT32_MIN, 0) && is_closed(other, caller, TRDP_SLOT_DONE));
-    CHECK(is_asked(1, 5000000, 0));
+    CHECK(is_asked(1, LONG, 0));
     CHECK_ERROR(trdp_slot_query(door, replier, 2201, 7, 999, closed, 1),
         TRDP_SLOT_REFUSED_TIMEOUT);
-    CHECK_ERROR(trdp_slot_query(door, replier, 2201, INT32_MAX, 5000000, closed, 1),
+    CHECK_ERROR(trdp_slot_query(door, replier, 2201, INT32_MAX, LONG, closed, 1),
         TRDP_SLOT_OK);
-    CHECK_ERROR(trdp_slot_query(door, replier, 2201, 7, 5000000, closed, 1),
+    CHECK_ERROR(trdp_slot_query(door, replier, 2201, 7, LONG, closed, 1),
         TRDP_SLOT_REFUSED_STATE);
     CHECK(is_replied(TRDP_SLOT_MQ, INT32_MAX, 1));
     place = told.source;
@@ -77,26 +81,35 @@ static void endings(void)
     CHECK(is_asked(0, 60000, 0) && is_closed(door, replier, TRDP_SLOT_REPLY_MISSED));
     CHECK(is_closed(other, caller, TRDP_SLOT_NO_REPLY));
     /* It is asked again once its replier is over. */
-    CHECK(is_asked(1, 300000, 1));
+    CHECK(is_asked(1, OPEN, 1));
     CHECK_ERROR(trdp_slot_abort(door, replier), TRDP_SLOT_OK);
     CHECK(is_told(door, TRDP_SLOT_ASKED, listener) && told.replier > replier);
     CHECK_ERROR(trdp_slot_abort(door, told.replier), TRDP_SLOT_OK);
     CHECK_ERROR(trdp_slot_abort(door, replier), TRDP_SLOT_REFUSED_NO_HANDLE);
     CHECK(is_closed(other, caller, TRDP_SLOT_NO_REPLY));
     /* Two answers are expected, and one comes. */
-    CHECK(is_asked(2, 300000, 0));
+    CHECK(is_asked(2, OPEN, 0));
     CHECK_ERROR(trdp_slot_reply(door, replier, 2201, 0, NULL, 0), TRDP_SLOT_OK);
     CHECK(is_replied(TRDP_SLOT_MP, 0, 0));
     CHECK(is_closed(other, caller, TRDP_SLOT_NOT_ALL_REPLIES));
     /* A query that isn't confirmed. */
-    CHECK(is_asked(1, 300000, 0));
+    CHECK(is_asked(1, OPEN, 0));
     CHECK_ERROR(trdp_slot_query(door, replier, 2201, 0, 100000, NULL, 0), TRDP_SLOT_OK);
     CHECK(is_replied(TRDP_SLOT_MQ, 0, 0) && is_closed(door, replier, TRDP_SLOT_NO_CONFIRM));
     CHECK(is_closed(other, caller, TRDP_SLOT_NOT_CONFIRMED));
-    /* An answer of any number, and a second request that the doors can't take. */
-    CHECK(is_asked(0, 500000, 0));
+    /* An answer of any number. */
+    CHECK(is_asked(0, OPEN, 0));
+    CHECK_ERROR(trdp_slot_reply(door, replier, 2201, 0, NULL, 0), TRDP_SLOT_OK);
+    CHECK(is_replied(TRDP_SLOT_MP, 0, 0) && is_closed(other, caller, TRDP_SLOT_DONE));
+    CHECK(is_quiet(other) && is_quiet(door));
+}
+
+/* A second request, which the doors can't take. */
+static void overrun(void)
+{
+    CHECK(is_asked(1, LONG, 0));
     uint32_t first = caller, second = 0;
-    struct trdp_slot_caller terms = request_terms(1, 5000000);
+    struct trdp_slot_caller terms = request_terms(1, LONG);
     CHECK_ERROR(trdp_slot_request(other, &terms, &second), TRDP_SLOT_OK);
     CHECK(is_told(door, TRDP_SLOT_OVERRUN, listener));
     CHECK_ERROR(trdp_slot_abort(other, second), TRDP_SLOT_OK);
@@ -109,7 +122,7 @@ static void endings(void)
 static void session_refusals(void)
 {
     uint32_t first = 0, second = 0, more = 99;
-    struct trdp_slot_caller terms = request_terms(9, 5000000);
+    struct trdp_slot_caller terms = request_terms(9, LONG);
     CHECK_ERROR(trdp_slot_request(door, &terms, &more), TRDP_SLOT_REFUSED_EXPECTED);
     terms.expected = 1;
     terms.retries = 3;
@@ -117,15 +130,18 @@ static void session_refusals(void)
     terms.retries = 0;
     terms.time = 999;
     CHECK_ERROR(trdp_slot_request(door, &terms, &more), TRDP_SLOT_REFUSED_TIMEOUT);
-    terms.time = 5000000;
+    terms.time = LONG;
     terms.to.address = other_address; /* where no listener is */
     CHECK_ERROR(trdp_slot_request(door, &terms, &first), TRDP_SLOT_OK);
     CHECK_ERROR(trdp_slot_request(door, &terms, &more), TRDP_SLOT_REFUSED_SESSION_OPEN);
-    terms = request_terms(1, 300000);
+    terms = request_terms(1, LONG);
     terms.to.address = other_address;
     CHECK_ERROR(trdp_slot_request(door, &terms, &second), TRDP_SLOT_OK);
     terms = request_terms(1, 60000);
+    terms.to.address = other_address;
     CHECK_ERROR(trdp_slot_request(door, &terms, &more), TRDP_SLOT_REFUSED_QUOTA);
+    CHECK_ERROR(trdp_slot_abort(door, second), TRDP_SLOT_OK);
+    CHECK_ERROR(trdp_slot_request(door, &terms, &second), TRDP_SLOT_OK);
     CHECK(is_closed(door, second, TRDP_SLOT_NO_REPLY));
     CHECK_ERROR(trdp_slot_put(door, first, closed, 1), TRDP_SLOT_REFUSED_WRONG_KIND);
     CHECK_ERROR(trdp_slot_abort(door, first), TRDP_SLOT_OK);
@@ -149,5 +165,6 @@ void test_sessions(void)
     CHECK_ERROR(trdp_slot_listen(door, &any, &listener), TRDP_SLOT_OK);
     answers();
     endings();
+    overrun();
     session_refusals();
 }

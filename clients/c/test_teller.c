@@ -40,7 +40,8 @@ static const char *mark_fault(const char *text, size_t length)
 }
 
 /* The daemon: what comes from the teller with `=` before it is said to the next line of the slot,
- * and with `!` at once to where the latest line came from; `?` is answered by that line. A mark is
+ * which is no remark, with `+` to the next remark too, and with `!` at once to where the latest
+ * line came from; `?` is answered by that line. A mark is
  * answered, and isn't the latest line; where `%` and a number came before, that many of them aren't
  * answered. */
 static void daemon_of_test(int socket)
@@ -48,6 +49,7 @@ static void daemon_of_test(int socket)
     static char text[65536], next[65536], line[65536];
     size_t next_length = 0, line_length = 0;
     int unanswered = 0;
+    bool answers_remarks = false;
     struct sockaddr_in slot, from;
     memset(&slot, 0, sizeof slot);
     for (;;) {
@@ -56,7 +58,8 @@ static void daemon_of_test(int socket)
         if (count < 1)
             continue;
         size_t length = (size_t)count;
-        if (text[0] == '=') {
+        if (text[0] == '=' || text[0] == '+') {
+            answers_remarks = text[0] == '+';
             next_length = length - 1;
             memcpy(next, text + 1, next_length);
         } else if (text[0] == '!') {
@@ -73,7 +76,7 @@ static void daemon_of_test(int socket)
             slot = from;
             memcpy(line, text, length);
             line_length = length;
-            if (text[0] != '#')
+            if (text[0] != '#' || answers_remarks)
                 say(socket, &slot, next, next_length);
         }
     }
@@ -108,7 +111,7 @@ const char *latest(void)
     static char text[65536];
     struct pollfd wait = { teller, POLLIN, 0 };
     tell('?', "");
-    ssize_t count = poll(&wait, 1, 2000) < 1 ? 0 : recv(teller, text, sizeof text - 1, 0);
+    ssize_t count = poll(&wait, 1, 20000) < 1 ? 0 : recv(teller, text, sizeof text - 1, 0);
     text[count < 0 ? 0 : count] = '\0';
     return text;
 }
@@ -121,21 +124,24 @@ bool had(const char *line)
     return is_so;
 }
 
-/* The daemon ends while the answer to the first try is waited for. The second one finds no one, but
- * it isn't known whether the first one took effect. */
+/* The daemon ends once it has the first try, while the answer to that is waited for. A later one
+ * finds no one, but it isn't known whether the first one took effect. */
 static void ends_meanwhile(pid_t child)
 {
+    static const char line[] = "pull 4294967295"; /* which it hasn't had before */
     tell('=', "");
-    at_port.slot.terms.timeout = 1000;
-    at_port.slot.terms.tries = 3;
+    at_port.slot.terms.timeout = 500;
+    at_port.slot.terms.tries = TRIES;
     pid_t killer = fork();
     if (killer == 0) {
-        poll(NULL, 0, 100);
+        alarm(CHILD_SECONDS);
+        while (strcmp(latest(), line) != 0)
+            poll(NULL, 0, 10);
         kill(child, SIGKILL);
         _exit(0);
     }
-    CHECK_ERROR(trdp_slot_pull(&at_port.slot, 1), TRDP_SLOT_TIMEOUT);
-    CHECK(at_port.slot.tried == 2);
+    CHECK_ERROR(trdp_slot_pull(&at_port.slot, UINT32_MAX), TRDP_SLOT_TIMEOUT);
+    CHECK(at_port.slot.tried >= 2 && at_port.slot.tried < TRIES);
     waitpid(killer, NULL, 0);
 }
 
@@ -157,12 +163,12 @@ void test_teller(void)
     int socket = udp(true);
     pid_t child = fork();
     if (child == 0) {
-        alarm(20);
+        alarm(CHILD_SECONDS);
         daemon_of_test(socket);
     }
     close(socket);
     teller = udp(false);
-    if (CHECK(child > 0) && test_open(&at_port, here, PORT, 2000)) {
+    if (CHECK(child > 0) && test_open(&at_port, here, PORT, ANSWER)) {
         CHECK(had("#"));
         test_lines();
         test_answers();

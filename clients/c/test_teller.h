@@ -7,8 +7,11 @@
 /* The slot. */
 extern struct test_slot at_port;
 
-/* Tells the daemon what to say: `=` to the next lines of the slot, `!` at once; texts with `|`
- * between them. `%` and a digit leave so many of the next marks unanswered. */
+/* How long an answer is waited for that comes, in milliseconds; and more tries than are needed. */
+enum { ANSWER = 20000, TRIES = 100 };
+
+/* Tells the daemon what to say: `=` to the next lines of the slot, `+` to its remarks too, `!` at
+ * once; texts with `|` between them. `%` and a digit leave so many of the next marks unanswered. */
 void tell(char when, const char *texts);
 
 /* The latest line that the daemon had. What it said before has come then. */

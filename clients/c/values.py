@@ -180,7 +180,7 @@ def main(program: str, count: int = 2000) -> int:
     cases = [draw(chance) for _ in range(count)]
     errors = errors_of_header()
     lines = "".join(f"{line_of(it)}\n" for it in cases)
-    ran = subprocess.run([program], input=lines, capture_output=True, text=True, timeout=60)
+    ran = subprocess.run([program], input=lines, capture_output=True, text=True, timeout=600)
     answers = ran.stdout.splitlines()
     failed = 0
     for case, answer in zip(cases, answers):

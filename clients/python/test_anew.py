@@ -13,15 +13,18 @@ from unittest import mock
 
 import test_ends
 import trdp_slot
+from test_edge import is_in
 from test_ends import LEASE, NEW, Display
 from test_paths import ANSWER_US, MARGIN, Clients
-from test_ports import DEVICE, HOME, control, node
+from test_ports import DEVICE, HOME
 from testing import CONTROL, MD, PD, SECOND, Relay, wait_until
 from trdp_slot import Handle, Kinds, NoAnswer, Nobody, Notified, Refused, Restarted, Slot
 from trdp_telegram import Telegram
 
 FRONT = "127.0.8.9"
 TRIES = 3
+# For how long an answer is waited for that isn't lost.
+LONG_US = 5 * SECOND
 WHOLE = Kinds(2, 1, 1, 1, 0, 0)
 
 
@@ -33,23 +36,18 @@ class Successors(test_ends.Ends):
         self.is_at_paths = False
         self.ends([it for it in test_ends.ENDS if it.is_at_ports], 0)
 
-    def are_over(self, display: Display, end: float) -> None:
-        """The successors don't wait for that."""
+    def remark(self, display: Display, clients: list[Slot]) -> None:
+        """They say that they are there, so that no lease ends them."""
+        test_ends.remark(display.speaker)
+        for client in clients:
+            client.begin()
 
     def ends(self, ends: list[test_ends.End], lease: float, *words: str) -> None:
-        """Has an application in a slot of its own for each of these ends, and a display in one more."""
-        self.telegrams, self.messages = self.socket(DEVICE), self.socket(DEVICE)
-        slots, quotas = range(len(ends)), "subscriptions = 16"
-        self.daemon(node(*(control(it, test_ends.QUOTAS) for it in slots), control(len(ends), quotas)), *words)
-        display = Display(self.speaks(len(ends)), slots)
-        speakers = [self.speaks(it) for it in slots]
+        """Has an application end in each of these ways, and a client come after it."""
+        display = self.are_killed(ends, *words)
+        clients = [self.succeeds(it, lease) for it in range(len(ends))]
         for slot, end in enumerate(ends):
-            end.before(self, speakers[slot], slot)
-        shown = [it + 1 for it in slots if ends[it].handles]
-        wait_until(lambda: self.are_shown(display, [(it, speakers[it - 1]) for it in shown]))
-        self.kill(ends, [self.holds(speakers[it], ends[it].does) for it in slots])
-        clients = [self.succeeds(it, lease) for it in slots]
-        for slot, end in enumerate(ends):
+            self.remark(display, clients[:slot])
             with self.subTest(end.name):
                 publishers = [clients[slot].publish(slot, f"{HOME}:{PD}", cycle_us=10_000) for _ in range(2)]
                 self.assertEqual([it.number for it in publishers], [end.handles + 1, end.handles + 2])
@@ -60,7 +58,7 @@ class Successors(test_ends.Ends):
 
     def succeeds(self, slot: int, lease: float) -> Slot:
         """The client that comes after the application of a slot."""
-        words: dict[str, Any] = {"answer_us": ANSWER_US, "lease_us": int(lease * SECOND) or None}
+        words: dict[str, Any] = {"answer_us": LONG_US, "lease_us": int(lease * SECOND) or None}
         client = Slot(self.folder if self.is_at_paths else HOME, CONTROL + slot, **words)
         self.addCleanup(client.close)
         return client
@@ -71,12 +69,12 @@ class Successors(test_ends.Ends):
 
         def is_enough() -> bool:
             for slot, so_far in enumerate(seen):
-                clients[slot].begin()
+                self.remark(display, clients)
                 looks = display.looks(slot + 1, 100)
                 so_far += looks if so_far else itertools.dropwhile(lambda it: it[2] != NEW, looks)
             return all(len(it) >= test_ends.LOOKS and it[-1][1] >= it[0][1] + test_ends.TELEGRAMS for it in seen)
 
-        wait_until(is_enough, seconds=20)
+        wait_until(is_enough, seconds=test_ends.LOOKED)
         for slot, end in enumerate(ends):
             with self.subTest(end.name):
                 self.assertEqual({value for _, _, value in seen[slot]}, {NEW})
@@ -173,7 +171,7 @@ class Anew(Makers):
         made = self.makes(slot)
         daemon.end()
         daemon.start()
-        self.assertEqual(slot.next_indication(5 * SECOND), Restarted(tuple(made.values()), ()))
+        self.assertEqual(slot.next_indication(20 * SECOND), Restarted(tuple(made.values()), ()))
         self.assertRaises(Refused, slot.get, made["subscription"])
         self.assertEqual(self.operator().slots()[0].objects, Kinds(0, 0, 0, 0, 0, 0))
 
@@ -205,17 +203,18 @@ class Anew(Makers):
         self.starts("--lease", str(LEASE))
         # By remarks alone: it doesn't look at its objects.
         with mock.patch.object(trdp_slot, "_LOOK", 100.0):
-            self.assertTrue(any(self.is_kept() for _ in range(TRIES)))
+            self.assertTrue(any(self.is_kept(number) for number in range(1, TRIES + 1)))
 
-    def is_kept(self) -> bool:
-        """Whether a client that runs, and one that waits for an answer, has its objects for longer than the lease."""
+    def is_kept(self, number: int) -> bool:
+        """Whether a client that runs, and one that waits for an answer, has its object for longer than the lease, of
+        that handle: a slot's handles go on."""
         with self.slot(lease_us=LEASE * SECOND) as slot, self.slot(1, lease_us=LEASE * SECOND) as other:
             handles = slot.subscribe(100), other.subscribe(100)
             end = time.monotonic() + 3 * LEASE
             while time.monotonic() < end:
                 slot.run(int(LEASE * SECOND / 10))
                 list(other.indications(int(LEASE * SECOND / 10)))
-            return slot.check() and other.check() and [it.number for it in handles] == [1, 1]
+            return slot.check() and other.check() and [it.number for it in handles] == [number] * 2
 
 
 class AnewAtPorts(Anew):
@@ -225,18 +224,21 @@ class AnewAtPorts(Anew):
 
 
 class Loses(Relay):
-    """A network that loses one answer, by its number, after the moment at which that is said."""
+    """A network that loses one answer, by its number, and no indication: an answer to a mark may come after one."""
 
     lost_one: int | None = None
     answers = 0  # that came to it
 
-    def times(self) -> int:
+    def times(self, data: bytes) -> int:
         """How often a datagram is brought."""
-        self.answers += 1
-        if self.lost_one is None:
+        if data.split()[1:2] == [b"notified"]:
             return 1
-        self.lost_one -= 1
-        return int(self.lost_one != -1)
+        self.answers += 1
+        return int(self.answers - 1 != self.lost_one)
+
+    def lose(self, number: int) -> None:
+        """Has that answer be lost, of those that come from here on."""
+        self.lost_one = self.answers + number
 
 
 class Restores(Makers):
@@ -257,36 +259,43 @@ class Restores(Makers):
 
     def test_each_answer_is_lost_in_turn(self) -> None:
         self.starts()
-        slot, relay = self.through(answer_us=50_000, tries=1)
+        slot, relay = self.through(answer_us=LONG_US, tries=1)
         made = self.makes(slot)
         seen = set()
         for number in range(self.STEPS + 2):
             with Slot(HOME, CONTROL, answer_us=ANSWER_US) as other:
                 other.reset()
-            relay.lost_one = number
+            relay.lose(number)
+            # What is lost is missed soon, and nothing else is.
+            slot.answer_us = 50_000
             seen.add(self.restored(slot, made))
-            relay.lost_one = None
         self.assertEqual(seen, {False, True})
 
     def restored(self, slot: Slot, made: dict[str, Handle]) -> bool:
         """Whether a check made all again at once; in any case it says True only where all is there."""
-        is_at_once = True
-        for _ in range(5):
+        refused = []
+
+        def is_checked() -> bool:
             try:
-                if slot.check():
-                    break
-            except NoAnswer:
-                is_at_once = False
+                return slot.check()
+            except NoAnswer as fault:
+                refused.append(fault)
+                slot.answer_us = LONG_US
+                return False
+
+        wait_until(is_checked)
+        slot.answer_us = LONG_US
         self.assertEqual(self.operator().slots()[0].objects, WHOLE)
         told = list(iter(lambda: slot.next_indication(0), None))
         self.assertEqual([type(it) for it in told], [Restarted])
         self.is_whole(slot, made)
-        return is_at_once
+        return not refused
 
     def test_nothing_is_made_before_the_last_reset_is_answered(self) -> None:
         self.starts()
         slot, relay = self.through(answer_us=100_000, tries=5)
         os.kill(self.started.process.pid, signal.SIGSTOP)
+        wait_until(lambda: is_in(self.started, "T"))
         self.assertRaises(NoAnswer, slot.publish, 100, f"{DEVICE}:{PD}")
         os.kill(self.started.process.pid, signal.SIGCONT)
         # Of each try the answer to the reset, and to the mark after it.
@@ -297,8 +306,11 @@ class Restores(Makers):
         def note(line: str) -> None:
             said.append(line)
             send(line)
+            if said.count("reset") == 2:
+                # From here on nothing is lost.
+                slot.answer_us = LONG_US
 
-        relay.lost_one = 1  # the answer to the mark after the first reset
+        relay.lose(1)  # the answer to the mark after the first reset
         with mock.patch.object(slot, "_send", note):
             slot.put(slot.publish(100, f"{DEVICE}:{PD}"), b"\x01")
         self.assertEqual([it.split()[0] for it in said if it not in ("mark", "get", "get mark", "#")],

@@ -13,6 +13,7 @@ import unittest
 from collections.abc import Callable, Coroutine
 from typing import Any
 
+from test_edge import is_in
 from test_paths import Clients
 from test_ports import DEVICE, HOME, control, node
 from testing import MD, PD, SECOND, SEED, wait_until
@@ -81,7 +82,7 @@ class Beside(Clients):
 
         def run() -> None:
             with contextlib.suppress(Enough):
-                slot.run(20 * SECOND)
+                slot.run(60 * SECOND)
 
         slot.on(Notified, end)
         thread = threading.Thread(target=run, daemon=True)
@@ -91,7 +92,7 @@ class Beside(Clients):
         for number in range(200):
             device.send(Telegram("Mn", 300, payload=bytes([number])).write())
             self.assertEqual(slot.get(handle).value, [[0] * 40])
-        thread.join(20)
+        thread.join(60)
         self.assertEqual([it.payload[0] for it in heard], list(range(200)))
 
     def test_what_a_callback_raises_ends_run_and_loses_nothing(self) -> None:
@@ -150,9 +151,9 @@ class Beside(Clients):
             if number % CREDIT == CREDIT - 1:
                 # What comes after them is heard, so that they were taken.
                 device.send(Telegram("Mn", 301).write())
-                self.assertIsInstance(fence.next_indication(5 * SECOND), Notified)
+                self.assertIsInstance(fence.next_indication(20 * SECOND), Notified)
         time.sleep(max(0.0, begin + BUSY - time.monotonic()))
-        came, lost, end = 0, 0, time.monotonic() + 15
+        came, lost, end = 0, 0, time.monotonic() + 60
         while came + lost < NOTIFICATIONS:
             self.assertLess(time.monotonic(), end, (came, lost))
             told = slot.next_indication(50_000)
@@ -185,7 +186,7 @@ class Beside(Clients):
             async with AsyncSlot(self.slot(**words)) as slot:
                 busy = asyncio.create_task(keep_busy())
                 try:
-                    await asyncio.wait_for(act(slot), 20)
+                    await asyncio.wait_for(act(slot), 120)
                 finally:
                     busy.cancel()
 
@@ -267,6 +268,7 @@ class Beside(Clients):
             handle = await slot.subscribe(140, dataset=40)
             for is_cancelled in (False, True):
                 os.kill(self.started.process.pid, signal.SIGSTOP)
+                wait_until(lambda: is_in(self.started, "T"))
                 getting = asyncio.create_task(slot.get(handle))
                 await asyncio.sleep(0.05)
                 if is_cancelled:

@@ -18,10 +18,21 @@ sys.path.insert(0, str(TOP / "examples/control"))
 import client  # noqa: E402
 
 CLIENT = [sys.executable, "-W", "error", str(TOP / "examples/control/client.py")]
+# How many seconds are waited for what has to come. LONG is longer.
+PATIENCE = 50
 ENDED = "client.py: the connection was ended\n"
 # Longer than any client here may go on: it ends by itself before.
 LONG = "60"
+# Within it a thread here says something, once the client has connected.
+SHORT = "2"
 NOBODY = 65534
+
+
+def patient(seconds: int = PATIENCE) -> list[str]:
+    """The client, but that it waits so long for what still comes behind the end of its input."""
+    text = (f"import sys; sys.path.insert(0, {str(TOP / 'examples/control')!r}); import client; "
+            f"client.LAST_SECONDS = {seconds}; sys.exit(client.main(sys.argv[1:]))")
+    return [*CLIENT[:-1], "-c", text]
 
 
 class Node(threading.Thread):
@@ -40,14 +51,14 @@ class Node(threading.Thread):
         try:
             taken, _ = self.listener.accept()
             with taken:
-                taken.settimeout(20)
+                taken.settimeout(PATIENCE)
                 self.serve(taken)
         except (OSError, AssertionError) as fault:
             self.fault = fault
 
     def close(self) -> None:
         """Waits for its end. Raises what went wrong at it."""
-        self.join(20)
+        self.join(PATIENCE)
         self.listener.close()
         if self.fault:
             raise self.fault
@@ -74,15 +85,15 @@ class Case(unittest.TestCase):
         self.addCleanup(node.close)
         return node
 
-    def says(self, *words: str, typed: bytes = b"") -> tuple[str, str, int]:
+    def says(self, *words: str, typed: bytes = b"", program: list[str] = CLIENT) -> tuple[str, str, int]:
         """What the client prints and says on the error stream, and its status."""
-        ran = subprocess.run([*CLIENT, *words], input=typed, capture_output=True, timeout=20)
+        ran = subprocess.run([*program, *words], input=typed, capture_output=True, timeout=PATIENCE)
         return ran.stdout.decode(), ran.stderr.decode(), ran.returncode
 
-    def stays(self, *words: str) -> subprocess.Popen[str]:
-        """A client that stays."""
-        process = subprocess.Popen([*CLIENT, "--stay", *words], stdin=subprocess.PIPE, stdout=subprocess.PIPE,
-                                   stderr=subprocess.PIPE, text=True)
+    def stays(self, *words: str, seconds: int = PATIENCE) -> subprocess.Popen[str]:
+        """A client that stays, and so long behind the end of its input."""
+        process = subprocess.Popen([*patient(seconds), "--stay", *words], stdin=subprocess.PIPE,
+                                   stdout=subprocess.PIPE, stderr=subprocess.PIPE, text=True)
         self.addCleanup(process.communicate)
         self.addCleanup(process.kill)
         return process
@@ -146,10 +157,10 @@ class WithinATime(Case):
 
         def serve(taken: socket.socket) -> None:
             taken.sendall(b"0 done\n")
-            over.wait(20)
+            over.wait(PATIENCE)
 
         self.node(serve)
-        self.assertEqual(self.says(self.path, "1", *["x" * 100_000] * 10), ("0 done\n", "", 0))
+        self.assertEqual(self.says(self.path, SHORT, *["x" * 100_000] * 10), ("0 done\n", "", 0))
         over.set()
 
     def test_one_that_never_ends_to_talk(self) -> None:
@@ -159,7 +170,7 @@ class WithinATime(Case):
                     taken.sendall(b"0 alive 1\n" * 5_000)
 
         self.node(serve)
-        said, errors, status = self.says(self.path, "1", "#")
+        said, errors, status = self.says(self.path, SHORT, "#")
         self.assertEqual((set(said.splitlines(True)), errors, status), ({"0 alive 1\n"}, "", 0))
 
     def test_a_line_that_is_too_long_or_has_no_end(self) -> None:
@@ -196,7 +207,7 @@ class Staying(Case):
         self.answers_typed(process, "get 1", "to get 1")
         self.answers_typed(process, "", "to ")
         process.stdin.write("no end")
-        self.assertEqual(process.communicate(timeout=20), ("to no end\n", ""))
+        self.assertEqual(process.communicate(timeout=PATIENCE), ("to no end\n", ""))
         self.assertEqual(process.returncode, 0)
 
     def test_what_comes_behind_the_end_of_the_input_is_printed(self) -> None:
@@ -205,7 +216,8 @@ class Staying(Case):
                 taken.sendall(b"%d lines\n" % len(lines.readlines()))
 
         self.node(serve)
-        self.assertEqual(self.says("--stay", self.path, typed=b"get 1\nget 2\n"), ("2 lines\n", "", 0))
+        said = self.says("--stay", self.path, typed=b"get 1\nget 2\n", program=patient())
+        self.assertEqual(said, ("2 lines\n", "", 0))
 
     def test_one_that_takes_lines_late_gets_all_of_them(self) -> None:
         lines = [b"%06d " % it + b"x" * 1_000 + b"\n" for it in range(2_000)]
@@ -217,20 +229,21 @@ class Staying(Case):
                 came.extend(typed)
 
         node = self.node(serve)
-        self.assertEqual(self.says("--stay", self.path, typed=b"".join(lines)), ("0 done\n" * 20_000, "", 0))
+        said = self.says("--stay", self.path, typed=b"".join(lines), program=patient())
+        self.assertEqual(said, ("0 done\n" * 20_000, "", 0))
         node.close()
         self.assertTrue(came == lines)
 
     def test_it_ends_as_the_connection_does(self) -> None:
         self.node(lambda taken: taken.sendall(b"busy\n"))
         process = self.stays(self.path)
-        self.assertEqual(process.wait(20), 0)
+        self.assertEqual(process.wait(PATIENCE), 0)
         assert process.stdout is not None and process.stderr is not None
         self.assertEqual((process.stdout.read(), process.stderr.read()), ("busy\n", ENDED))
 
     def test_it_ends_though_the_other_side_does_not(self) -> None:
         over = threading.Event()
-        self.node(lambda _: self.assertTrue(over.wait(20)))
+        self.node(lambda _: self.assertTrue(over.wait(PATIENCE)))
         for words in (["--stay", self.path], ["--stay", self.path, "#"]):
             self.assertEqual(self.says(*words), ("", "", 1))
         over.set()
@@ -243,18 +256,19 @@ class Staying(Case):
     def test_it_stays_at_a_port_too(self) -> None:
         port = Port("127.0.8.28", lambda line: [f"to {line}"] if line != "#" else [])
         self.addCleanup(port.close)
-        process = self.stays("127.0.8.28", str(port.number), "#")
+        # Nothing but that time ends it.
+        process = self.stays("127.0.8.28", str(port.number), "#", seconds=2)
         self.answers_typed(process, "get 1", "to get 1")
         port.say("0 silent 1")
         assert process.stdout is not None
         self.assertEqual(process.stdout.readline(), "0 silent 1\n")
-        self.assertEqual(process.communicate("get 2", timeout=20), ("to get 2\n", ""))
+        self.assertEqual(process.communicate("get 2", timeout=PATIENCE), ("to get 2\n", ""))
         self.assertEqual((process.returncode, port.lines), (0, ["#", "get 1", "get 2"]))
 
     def test_an_input_that_is_closed_has_ended(self) -> None:
         self.node(answers)
-        line = ["sh", "-c", 'exec "$@" <&-', "sh", *CLIENT, "--stay", self.path, "get 1"]
-        ran = subprocess.run(line, capture_output=True, timeout=20)
+        line = ["sh", "-c", 'exec "$@" <&-', "sh", *patient(), "--stay", self.path, "get 1"]
+        ran = subprocess.run(line, capture_output=True, timeout=PATIENCE)
         self.assertEqual((ran.stdout, ran.stderr, ran.returncode), (b"to get 1\n", b"", 0))
 
 

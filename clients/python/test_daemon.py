@@ -15,8 +15,10 @@ import unittest
 import uuid
 from collections.abc import Callable
 from typing import Any
+from unittest import mock
 
 import testing
+from test_edge import is_in
 from test_values import BASIC
 from testing import CONTROL, MD, OPERATOR, PD, SECOND, Daemon, wait_until
 from trdp_slot import (Alive, Asked, Closed, ConfigFault, Confirmed, Datasets, DoesNotFit, Handle, Kinds, Notified,
@@ -24,6 +26,8 @@ from trdp_slot import (Alive, Asked, Closed, ConfigFault, Confirmed, Datasets, D
 from trdp_telegram import read_telegram
 
 DOOR, DESK, SINK, FRONT = "127.0.8.1", "127.0.8.2", "127.0.8.3", "127.0.8.4"
+# A machine may stand still for a while, in microseconds at most; how often a call is made in a network that loses.
+STILL_US, TRIES = 800_000, 400
 
 NODE = """
 [node]
@@ -76,7 +80,7 @@ class Case(unittest.TestCase):
         daemon = Daemon(node(address, datasets))
         self.daemons.append(daemon)
         self.addCleanup(daemon.close)
-        return self.client(Slot(str(daemon.path), 0, answer_us=SECOND // 2, **words))
+        return self.client(Slot(str(daemon.path), 0, answer_us=SECOND, **words))
 
     def client(self, slot: Slot) -> Slot:
         """A client that is closed after the test, whose daemon is there."""
@@ -86,7 +90,7 @@ class Case(unittest.TestCase):
 
     def told(self, slot: Slot, kind: type) -> Any:
         """The next indication, of that kind."""
-        told = slot.next_indication(2 * SECOND)
+        told = slot.next_indication(20 * SECOND)
         self.assertIsInstance(told, kind)
         return told
 
@@ -106,8 +110,8 @@ class ProcessData(Case):
     """Publishers, subscriptions and requesters."""
 
     def test_values_come_stop_and_come_again(self) -> None:
-        zero = self.desk.subscribe(100, dataset=1001, low=DOOR, high=DOOR, dest=DESK, time_us=150_000)
-        keep = self.desk.subscribe(100, dataset=1001, time_us=150_000, behaviour="keep")
+        zero = self.desk.subscribe(100, dataset=1001, low=DOOR, high=DOOR, dest=DESK, time_us=STILL_US)
+        keep = self.desk.subscribe(100, dataset=1001, time_us=STILL_US, behaviour="keep")
         self.assertEqual((zero.number, keep.number), (1, 2))
         self.assertEqual(self.told(self.desk, Silent), Silent(zero))
         self.assertEqual(self.told(self.desk, Silent), Silent(keep))
@@ -185,7 +189,7 @@ class MessageData(Case):
     def ask(self, **words: Any) -> tuple[Handle, Asked]:
         """The desk asks; the door listens, and hears it."""
         listener = self.door.listen(300, low=DESK, high=DESK, dest=DOOR)
-        words = {"time_us": 2 * SECOND, **words}
+        words = {"time_us": 20 * SECOND, **words}
         caller = self.desk.request(300, f"{DOOR}:{MD}", b"\x0d", **words)
         asked = self.told(self.door, Asked)
         self.assertIs(asked.listener, listener)
@@ -221,7 +225,7 @@ class MessageData(Case):
 
     def test_query_and_confirm(self) -> None:
         caller, asked = self.ask()
-        self.door.query(asked.replier, 301, [1, [5]], dataset=1001, time_us=2 * SECOND)
+        self.door.query(asked.replier, 301, [1, [5]], dataset=1001, time_us=20 * SECOND)
         replied = self.told(self.desk, Replied)
         self.assertEqual(replied, Replied(caller, f"{DOOR}:{MD}", "Mq", 0, 301, b"\x01\x00\x05"))
         self.refused("State", self.door.reply, asked.replier, 301)
@@ -251,21 +255,21 @@ class MessageData(Case):
 
     def test_not_all_replies(self) -> None:
         # rule: caller.reason
-        caller, asked = self.ask(time_us=300_000, expected=2)
+        caller, asked = self.ask(time_us=STILL_US, expected=2)
         self.door.reply(asked.replier, 301)
         self.told(self.desk, Replied)
         self.closed(self.desk, caller, "NotAllReplies")
 
     def test_whoever_answers(self) -> None:
         # rule: caller.complete
-        caller, asked = self.ask(time_us=300_000, expected=0)
+        caller, asked = self.ask(time_us=STILL_US, expected=0)
         self.door.reply(asked.replier, 301)
         self.told(self.desk, Replied)
         self.closed(self.desk, caller, "Done")
 
     def test_not_confirmed(self) -> None:
         # rule: caller.reason
-        caller, asked = self.ask(time_us=400_000)
+        caller, asked = self.ask(time_us=STILL_US)
         self.door.query(asked.replier, 301, time_us=100_000)
         self.assertEqual(self.told(self.desk, Replied).kind, "Mq")
         self.closed(self.door, asked.replier, "NoConfirm")
@@ -275,7 +279,7 @@ class MessageData(Case):
         # rule: replier.overrun
         listener = self.door.listen(300)
         for _ in range(3):
-            self.desk.request(300, f"{DOOR}:{MD}", time_us=2 * SECOND)
+            self.desk.request(300, f"{DOOR}:{MD}", time_us=20 * SECOND)
         self.told(self.door, Asked)
         self.told(self.door, Asked)
         self.assertEqual(self.told(self.door, Overrun), Overrun(listener))
@@ -292,7 +296,7 @@ class MessageData(Case):
         # rule: caller.repeat message.counter
         with socket.socket(socket.AF_INET, socket.SOCK_DGRAM) as sink:
             sink.bind((SINK, MD))
-            sink.settimeout(2)
+            sink.settimeout(20)
             caller = self.desk.request(300, f"{SINK}:{MD}", b"\x0d", time_us=20_000, retries=2)
             telegrams = [read_telegram(sink.recv(65536), True) for _ in range(3)]
         told = [(it.kind, it.counter, it.payload) for it in telegrams]
@@ -365,7 +369,7 @@ class Slots(Case):
         # rule: slot.added slot.opened
         operator = Operator(DOOR, OPERATOR, answer_us=SECOND)
         operator.addslot(publishers=1)
-        late = self.client(Slot(str(self.daemons[0].path), 1, answer_us=SECOND // 2))
+        late = self.client(Slot(str(self.daemons[0].path), 1, answer_us=SECOND))
         publisher = late.publish(100, f"{DESK}:{PD}", cycle_us=10_000)
         self.assertEqual(publisher.number, 1)
         late.put(publisher, b"\x01")
@@ -387,7 +391,8 @@ class Slots(Case):
         self.assertEqual(self.told(self.desk, Silent), Silent(subscription))
         self.refused("NoHandle", self.door.put, before[0].number, b"\x02")
         self.assertEqual(self.door.publish(100, f"{DESK}:{PD}").number, before[-1].number + 1)
-        self.assertEqual(self.desk.get(subscription).state, "Silent")
+        # On a slow machine that which was told may have been of a time before the reset.
+        wait_until(lambda: self.desk.get(subscription).state == "Silent")
 
     def test_what_an_operator_is_told(self) -> None:
         # rule: control.question
@@ -408,7 +413,7 @@ class Slots(Case):
         wait_until(lambda: (operator.slots()[0].silent_us or 0) > since)
 
     def test_a_client_by_address(self) -> None:
-        slot = self.client(Slot(DOOR, CONTROL, answer_us=SECOND // 2))
+        slot = self.client(Slot(DOOR, CONTROL, answer_us=SECOND))
         publisher = slot.publish(100, f"{DESK}:{PD}", dataset=1001, cycle_us=1000)
         slot.put(publisher, b"\x01\x00\x05")
         with self.assertRaisesRegex(DoesNotFit, "isn't known here"):
@@ -432,7 +437,9 @@ class Programs(Case):
         self.daemon(DOOR, datasets)
         self.daemon(DESK, datasets)
         doors = doors.replace("doors.toml", str(self.daemons[2].path)).replace("127.0.0.2:17224", f"{DESK}:{PD}")
-        display = display.replace("display.toml", str(self.daemons[3].path))
+        # A slow machine isn't silent, and answers in time.
+        display = display.replace("display.toml", str(self.daemons[3].path)).replace("500_000", "1_500_000")
+        self.enterContext(mock.patch.dict(Slot.__init__.__kwdefaults__, answer_us=SECOND))
         said: list[Any] = []
 
         class Enough(Exception):
@@ -456,10 +463,10 @@ class Programs(Case):
 
     def test_the_client_of_the_examples(self) -> None:
         for words, said, status in [
-            (["0.2", f"publish 2101 0 100000 0 0 0 {SINK}:{PD}", "put 1 0400", "get 7"],
+            (["0.6", f"publish 2101 0 100000 0 0 0 {SINK}:{PD}", "put 1 0400", "get 7"],
              "0 handle 1\n0 done\n0 refused NoHandle\n", 0),
-            (["0.2", "put 1", "call 0 get 1"], "line fault Count\nline fault Unknown\n", 0),
-            (["0.3", "subscribe 1 0 0.0.0.0 0.0.0.0 0.0.0.0 0 0 1000 keep"], "0 handle 2\n0 silent 2\n", 0),
+            (["0.6", "put 1", "call 0 get 1"], "line fault Count\nline fault Unknown\n", 0),
+            (["0.6", "subscribe 1 0 0.0.0.0 0.0.0.0 0.0.0.0 0 0 1000 keep"], "0 handle 2\n0 silent 2\n", 0),
             (["0.05", "#"], "", 1), (["0.05"], "", 2), (["x", "get 1"], "", 2),
         ]:
             line = [sys.executable, "-W", "error", str(testing.TOP / "examples/control/client.py"), DOOR, str(CONTROL)]
@@ -472,7 +479,7 @@ class Restarts(Case):
 
     def test_objects_are_made_again(self) -> None:
         path = str(self.daemons[0].path)
-        door = self.client(Slot(path, 0, answer_us=SECOND // 2, restore=True))
+        door = self.client(Slot(path, 0, answer_us=SECOND, restore=True))
         listener = door.listen(300)
         subscription = self.desk.subscribe(100, dataset=1001, time_us=50_000)
         publisher = door.publish(100, f"{DESK}:{PD}", dataset=1001, cycle_us=5_000)
@@ -506,12 +513,15 @@ class Restarts(Case):
         self.assertEqual(self.told(self.door, Restarted), Restarted((publisher,), ()))
 
     def test_a_daemon_that_halts_for_a_while(self) -> None:
-        door = self.client(Slot(DOOR, CONTROL, answer_us=60_000))
+        door = self.client(Slot(DOOR, CONTROL, answer_us=SECOND))
         one, two = door.subscribe(100, time_us=100_000), door.subscribe(101)
         self.daemons[0].process.send_signal(signal.SIGSTOP)
+        wait_until(lambda: is_in(self.daemons[0], "T"))
+        door.answer_us = 60_000
         for _ in range(3):
             self.assertRaises(TimeoutError, door.get, one)
         self.assertRaises(TimeoutError, door.publish, 102, f"{DESK}:{PD}")
+        door.answer_us = SECOND
         self.daemons[0].process.send_signal(signal.SIGCONT)
         self.assertEqual(self.told(door, Silent), Silent(one))
         wait_until(lambda: self.answers(door))
@@ -534,7 +544,7 @@ class Losses(Case):
     def through(self, seed: int, both_ways: bool) -> None:
         relay = testing.Relay(FRONT, (DOOR, CONTROL), seed, lost=5, doubled=4, both_ways=both_ways)
         self.addCleanup(relay.close)
-        slot = Slot.look(FRONT, relay.number, datasets=self.door.datasets, answer_us=20_000, tries=40)
+        slot = Slot.look(FRONT, relay.number, datasets=self.door.datasets, answer_us=20_000, tries=TRIES)
         self.addCleanup(slot.close)
         # Made without losses.
         publisher = self.door.publish(100, f"{SINK}:{PD}", dataset=1001).number
@@ -565,14 +575,14 @@ class Losses(Case):
     def test_objects_are_made_once(self) -> None:
         relay = testing.Relay(FRONT, (DOOR, CONTROL), 3, lost=4, doubled=4, both_ways=False)
         self.addCleanup(relay.close)
-        slot = Slot(FRONT, relay.number, answer_us=20_000, tries=40)
+        slot = Slot(FRONT, relay.number, answer_us=20_000, tries=TRIES)
         self.addCleanup(slot.close)
         made = lost = 0
-        for _ in range(30):
+        while made + lost < 300 and (made + lost < 30 or min(made, lost) < 4):
             try:
                 handle = slot.subscribe(100)
             except TimeoutError:
-                # The object was made, and its number is the next one.
+                # The object was made, and its number is the next one. The answer may have been late, too.
                 lost += 1
                 slot.unsubscribe(made + lost)
                 continue

@@ -15,7 +15,7 @@ from testing import CONTROL, MD, OPERATOR, PD, Daemon, wait_until
 
 FAR = "127.0.8.8"
 # How long an answer may take at most, in seconds; it takes some 10 ms on a busy machine. No rest here ends by itself.
-PROMPT = 1.0
+PROMPT = 5.0
 TRIES = 3
 # A message as long as a datagram over UDP allows: its header, and a dataset of whole words.
 LONGEST = 65_504

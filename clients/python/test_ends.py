@@ -22,11 +22,12 @@ QUOTAS = "publishers = 2\nlisteners = 1\ncallers = 1\nrepliers = 1"
 # Each application publishes what begins with OLD, and its successor NEW.
 OLD, NEW = b"aa", b"bb00"
 # Seconds: the supervision of the display; how long something may still be sent after an end and a lease; for how long
-# it is seen then that nothing is, in which a request would be sent again, and a session closed; the lease.
-SUPERVISION, AFTER, SEEN, LEASE = 1.0, 1.0, 1.8, 1
+# it is seen then that nothing is, in which a request would be sent again, and a session closed; the lease; within what
+# time comes what was sent.
+SUPERVISION, AFTER, SEEN, LEASE, SOON = 2.0, 1.0, 1.8, 1, 0.1
 SESSION_US = 2_500_000
-# How often a display looks at a successor's value, over how many telegrams at the least.
-LOOKS, TELEGRAMS = 2000, 5
+# How often a display looks at a successor's value, over how many telegrams at the least, and within how many seconds.
+LOOKS, TELEGRAMS, LOOKED = 2000, 5, 120
 # How many times as long as it should take something may take, and how often it is tried.
 MARGIN, TRIES = 10, 3
 
@@ -36,6 +37,7 @@ class Datagrams:
 
     def __init__(self, client: Socket) -> None:
         self.socket = client
+        client.settimeout(20)
 
     def say(self, *lines: bytes) -> None:
         """Says lines."""
@@ -59,7 +61,13 @@ class Display:
         self.told: dict[int, bytes] = {}
         for com_id in com_ids:
             speaker.say(f"subscribe {com_id} 0 {HOME} {HOME} 0.0.0.0 0 0 {round(SUPERVISION * 1e6)} zero".encode())
-            assert b" handle " in speaker.hear()
+            while b" handle " not in (text := speaker.hear()):
+                self.keep(text.split())
+
+    def keep(self, words: list[bytes]) -> None:
+        """Keeps an indication."""
+        assert words[1] in (b"silent", b"alive"), words
+        self.told[int(words[2])] = words[1]
 
     def looks(self, handle: int, times: int = 1) -> list[tuple[bytes, int, bytes]]:
         """That many times the state, the counter and the value that a subscription shows."""
@@ -70,8 +78,14 @@ class Display:
             if words[1] == b"value":
                 shown.append((words[2], int(words[3]), words[4]))
             else:
-                self.told[int(words[2])] = words[1]
+                self.keep(words)
         return shown
+
+
+def remark(*speakers: Speaker) -> None:
+    """They say that they are there, so that no lease ends them."""
+    for speaker in speakers:
+        speaker.say(b"#")
 
 
 class Spoken(AtPaths):
@@ -176,49 +190,76 @@ class Ends(Spoken):
         self.is_at_paths = False
         self.ends([it for it in ENDS if it.is_at_ports], LEASE, "--lease", str(LEASE))
 
-    def ends(self, ends: list[End], lease: float, *words: str) -> None:
-        """Has an application in a slot of its own for each of these ends, and a display in one more."""
+    def are_killed(self, ends: list[End], *words: str) -> Display:
+        """Has an application in a slot of its own for each of these ends, and kills them; in one more slot is the
+        display that this answers."""
         self.telegrams, self.messages = self.socket(DEVICE), self.socket(DEVICE)
         slots = range(len(ends))
         self.daemon(node(*(control(it, QUOTAS) for it in slots), control(len(ends), "subscriptions = 16")), *words)
         display = Display(self.speaks(len(ends)), slots)
         speakers = [self.speaks(it) for it in slots]
+        shown = [it for it in slots if ends[it].handles]
         for slot, end in enumerate(ends):
             end.before(self, speakers[slot], slot)
-        shown = [it + 1 for it in slots if ends[it].handles]
-        wait_until(lambda: self.are_shown(display, [(it, speakers[it - 1]) for it in shown]))
-        self.kill(ends, [self.holds(speakers[it], ends[it].does) for it in slots])
-        self.are_over(display, time.monotonic() + lease + AFTER)
-        for handle in shown:
+            remark(display.speaker, *(speakers[it] for it in shown if it < slot))
+        for slot in shown:
+            wait_until(lambda: self.is_shown(display, slot + 1, [speakers[it] for it in shown]))
+        holders = []
+        for speaker, end in zip(speakers, ends):
+            remark(display.speaker)
+            holders.append(self.holds(speaker, end.does))
+        self.kill(display, ends, holders)
+        return display
+
+    def ends(self, ends: list[End], lease: float, *words: str) -> None:
+        """Has an application end in each of these ways, and another one come after it."""
+        display = self.are_killed(ends, *words)
+        self.are_over(display, len(ends) + 1, time.monotonic() + lease + AFTER)
+        for handle in (number for number, end in enumerate(ends, 1) if end.handles):
             with self.subTest(ends[handle - 1].name):
+                wait_until(lambda: display.looks(handle)[0][0] == b"Silent")
                 self.assertEqual(display.told[handle], b"silent")
                 state, _, value = display.looks(handle)[0]
                 self.assertEqual((state, value), (b"Silent", b"0000"))
         self.are_followed(display, ends)
 
-    def are_shown(self, display: Display, shown: list[tuple[int, Speaker]]) -> bool:
-        """Whether each of these subscriptions shows a value. The applications aren't silent meanwhile."""
-        for _, speaker in shown:
-            speaker.say(b"#")
-        return all(display.looks(handle)[0][0] == b"Valid" for handle, _ in shown)
+    def is_shown(self, display: Display, handle: int, speakers: list[Speaker]) -> bool:
+        """Whether that subscription shows a value. The applications aren't silent meanwhile."""
+        remark(*speakers)
+        return display.looks(handle)[0][0] == b"Valid"
 
-    def kill(self, ends: list[End], holders: list[Holder]) -> None:
+    def kill(self, display: Display, ends: list[End], holders: list[Holder]) -> None:
         """Kills these processes, once they do what they do."""
         for end, holder in zip(ends, holders):
             if end.is_stopped:
                 holder.stop()
         operator = self.speaks(OPERATOR - CONTROL)
-        # Each question is taken too.
-        before, asked = taken(operator), itertools.count(1)
-        wait_until(lambda: taken(operator) - next(asked) > before + 30)
+        # Each question is taken too, and each remark of the display.
+        before, asked = taken(operator), itertools.count(2, 2)
+
+        def are_at_work() -> bool:
+            remark(display.speaker)
+            return taken(operator) - next(asked) > before + 30
+
+        wait_until(are_at_work)
         for holder in holders:
             holder.kill()
 
-    def are_over(self, display: Display, end: float) -> None:
-        """From that time on nothing is sent any more."""
-        sinks = [self.telegrams, self.messages]
-        while (now := time.monotonic()) < end + SEEN:
+    def are_over(self, display: Display, slots: int, end: float) -> None:
+        """From that time on nothing is sent any more; on a slow machine, once all slots but the display's are reset."""
+        sinks, operator = [self.telegrams, self.messages], self.speaks(OPERATOR - CONTROL)
+
+        def are_reset() -> bool:
             # The display isn't silent, so that no lease ends it.
+            display.looks(1)
+            publishers = {words[1] for words in shares(operator, slots)}
+            for sink in sinks:
+                arrived(sink)
+            return publishers <= {b"0/2", b"0/0"}
+
+        wait_until(are_reset, MARGIN * (LEASE + AFTER))
+        end = max(end, time.monotonic() + SOON)
+        while (now := time.monotonic()) < end + SEEN:
             display.looks(1)
             came = [data for it in select.select(sinks, [], [], 0.05)[0] for data in arrived(it)]
             if now > end:
@@ -230,13 +271,14 @@ class Ends(Spoken):
         speakers = [self.speaks(it) for it in range(len(ends))]
         for slot, end in enumerate(ends):
             handle = end.handles + 1
+            remark(display.speaker, *speakers[:slot])
             with self.subTest(end.name):
                 self.calls(speakers[slot], slot, (publish((HOME, PD), slot), f"handle {handle}"),
                            (b"put %d %s" % (handle, NEW), "done"),
                            (publish(self.telegrams.getsockname(), slot), f"handle {handle + 1}"),
                            *((f"abort {it}", "refused NoHandle") for it in range(1, handle)))
         seen: list[list[tuple[bytes, int, bytes]]] = [[] for _ in ends]
-        wait_until(lambda: self.look_again(display, speakers, seen), seconds=20)
+        wait_until(lambda: self.look_again(display, speakers, seen), seconds=LOOKED)
         for slot, end in enumerate(ends):
             with self.subTest(end.name):
                 self.assertEqual({value for _, _, value in seen[slot]}, {NEW})
@@ -245,10 +287,19 @@ class Ends(Spoken):
     def look_again(self, display: Display, speakers: list[Speaker], seen: list[list[tuple[bytes, int, bytes]]]) -> bool:
         """Looks at each value, and keeps what is seen from a successor's value on; whether that is enough."""
         for slot, so_far in enumerate(seen):
-            speakers[slot].say(b"#")
+            remark(*speakers)
             looks = display.looks(slot + 1, 100)
             so_far += looks if so_far else itertools.dropwhile(lambda it: it[2] != NEW, looks)
         return all(len(it) >= LOOKS and it[-1][1] >= it[0][1] + TELEGRAMS for it in seen)
+
+
+def shares(operator: Speaker, slots: int) -> list[list[bytes]]:
+    """What each of that many slots has and may have at most, as an operator is told it, behind its number."""
+    operator.say(b"slots")
+    text = b""
+    while text.count(b"\n") < slots:
+        text += operator.hear()
+    return [line.split() for line in text.splitlines()]
 
 
 def totals(operator: Speaker) -> list[int]:
@@ -322,11 +373,7 @@ class Leases(Spoken):
 
     def has_none(self, operator: Speaker, slot: int) -> bool:
         """Whether that slot has no publisher."""
-        operator.say(b"slots")
-        text = b""
-        while text.count(b"\n") < self.SLOTS:
-            text += operator.hear()
-        return text.splitlines()[slot].split()[1] == b"0/1"
+        return shares(operator, self.SLOTS)[slot][1] == b"0/1"
 
     def test_one_that_hangs_is_over_behind_the_lease(self) -> None:
         # rule: slot.lease
@@ -342,12 +389,13 @@ class Leases(Spoken):
             while not self.has_none(operator, 0):
                 latest = time.monotonic() if arrived(sink) else latest
                 self.assertLess(time.monotonic(), begin + MARGIN * LEASE)
+            # What came while this didn't look: by now at the latest.
+            latest = time.monotonic() if arrived(sink) else latest
             self.assertGreaterEqual(latest - begin, LEASE - self.CYCLE)
-            arrived(sink)
             # It learns of it, and goes on.
             self.calls(application, 0, (b"put 1 00", "refused NoHandle"))
             self.publishes(application, 0, 2, sink.getsockname())
-            self.assertTrue(select.select([sink], [], [], MARGIN * self.CYCLE)[0])
+            self.assertTrue(select.select([sink], [], [], MARGIN * LEASE)[0])
 
     def test_one_that_speaks_is_not(self) -> None:
         applications = self.both()
@@ -376,6 +424,7 @@ class Leases(Spoken):
         for slot, applications in enumerate((speaking, silent)):
             for application in applications:
                 self.publishes(application, slot, 1, (DEVICE, PD), 1000)
+        remark(*speaking)
         for daemon in self.daemons:
             wait_until(lambda: is_in(daemon, "S"))
             os.kill(pid(daemon), signal.SIGSTOP)
@@ -386,6 +435,8 @@ class Leases(Spoken):
         for daemon in self.daemons:
             os.kill(pid(daemon), signal.SIGCONT)
         for operator in self.both(OPERATOR):
+            # What was judged stays so, and no lease runs out from here on.
+            remark(*speaking)
             wait_until(lambda: self.has_none(operator, 1))
             self.assertFalse(self.has_none(operator, 0))
 

@@ -119,7 +119,7 @@ class Dumps(unittest.TestCase):
         with socket.socket(socket.AF_INET, socket.SOCK_DGRAM) as taken:
             taken.bind((FIRST, MD))
             line = [sys.executable, str(HERE / "trdp_dump.py"), DUMP, *PORTS, *JOINED]
-            ran = subprocess.run(line, capture_output=True, timeout=20, text=True)
+            ran = subprocess.run(line, capture_output=True, timeout=60, text=True)
         self.assertEqual((ran.returncode, ran.stderr), (
             1, f"trdp_dump.py: {FIRST}:{MD}: Address already in use: a program has this port; --beside copies what "
                "comes to it, as root\n"))
@@ -144,7 +144,7 @@ class Sends(unittest.TestCase):
         address, number = port.getsockname()
         line = [sys.executable, "-W", "error", str(HERE / "trdp_send.py"), f"{address}:{number}", "--com-id", "1",
                 *words]
-        ran = subprocess.run(line, capture_output=True, timeout=20)
+        ran = subprocess.run(line, capture_output=True, timeout=60)
         self.assertEqual((ran.returncode, ran.stderr), (0, b""))
         data, told, _, source = port.recvmsg(65536, 64)
         self.assertEqual(data, Telegram("Pd", 1).write())

@@ -112,10 +112,12 @@ class Made(unittest.TestCase):
 
         slot = self.serve(act)
         slot.answer_us = 10_000
-        for _ in range(3):
+        for _ in range(2):
             self.assertRaises(NoAnswer, slot.get, 1)
-        freed.set()
+        # It waits for as long as the one before, and whoever comes then for as long as this one.
         slot.answer_us = ANSWER_US
+        self.assertRaises(NoAnswer, slot.get, 1)
+        freed.set()
         slot.begin()
         self.assertEqual([slot.get(it).counter for it in (2, 3, 4)], [2, 3, 4])
 

@@ -17,6 +17,9 @@ from testing import TOP, has_groups, wait_until
 
 ADDRESSES = {"127.0.0.1": "127.0.8.30", "127.0.0.2": "127.0.8.31", "127.0.0.3": "127.0.8.34", "127.0.9.": "127.0.8.",
              "0x7f000002": "0x7f00081f", "239.192.0.1": "239.192.8.34"}
+# How long a client waits for an answer: as it is written, and how it is here, where a daemon may stand still.
+WAITS = [(r'(Slot(?:\.look)?\("\w+\.toml", 0)', r"\1, answer_us=10_000_000"),
+         (r"\.timeout = 200\b", ".timeout = 10000")]
 COUNTS = re.compile(r"(?<=counter=)\d+")
 
 
@@ -24,6 +27,13 @@ def here(text: str) -> str:
     """A text with the addresses that this test has."""
     for address, own in ADDRESSES.items():
         text = re.sub(rf"\b{re.escape(address)}(?!\d)" if address[-1] != "." else re.escape(address), own, text)
+    return text
+
+
+def patient(text: str) -> str:
+    """A program, whose client waits here for as long as this test has it wait."""
+    for written, own in WAITS:
+        text = re.sub(written, own, text)
     return text
 
 
@@ -38,7 +48,7 @@ class Page(unittest.TestCase):
             (self.top / name).mkdir(parents=True)
             for file in (TOP / name).iterdir():
                 if file.suffix in (".toml", ".c", ".h"):
-                    (self.top / name / file.name).write_text(here(file.read_text()))
+                    (self.top / name / file.name).write_text(patient(here(file.read_text())))
         self.blocks = list(blocks(here((TOP / "docs/CLIENTS.md").read_text())))
 
     def block(self, beginning: str) -> Block:
@@ -52,13 +62,18 @@ class Page(unittest.TestCase):
         return self.block(beginning).steps()
 
     def begin(self, command: str) -> subprocess.Popen[str]:
-        """Types a command, which goes on beside this."""
-        return self.folder.begin(command.removesuffix("&").strip())
+        """Types a command, which goes on beside this. The process is its program's own: no shell ends before that."""
+        return self.folder.begin(re.sub(r"^(?=\w+=)", "env ", command.removesuffix("&").strip()))
 
     def prints(self, step: Step) -> None:
         """A command prints what the page says."""
         said = self.folder.type(step.text)
         self.assertEqual([COUNTS.sub("N", it) for it in said], [COUNTS.sub("N", it) for it in step.shown], step.typed)
+
+    def prints_at_last(self, step: Step) -> None:
+        """The same, where what is shown comes in time: a machine that halts for half a second has it be silent."""
+        wanted = [COUNTS.sub("N", it) for it in step.shown]
+        wait_until(lambda: [COUNTS.sub("N", it) for it in self.folder.type(step.text)] == wanted, 60)
 
     def begins(self, step: Step) -> subprocess.Popen[str]:
         """A command that goes on prints what the page says."""
@@ -78,7 +93,7 @@ class Page(unittest.TestCase):
 
     def write(self, name: str, beginning: str) -> None:
         """Writes a file of the page: the block that begins so."""
-        (self.top / name).write_text(self.block(beginning).code)
+        (self.top / name).write_text(patient(self.block(beginning).code))
 
     def test_all(self) -> None:
         for step in self.steps("$ cp examples/control/door.toml doors.toml"):
@@ -103,8 +118,7 @@ class Page(unittest.TestCase):
         self.programs_again()
         self.write("look.py", "from trdp_slot import Slot\n\nwith Slot.look(")
         looking, = self.steps("$ PYTHONPATH=clients/python python3 look.py")
-        wait_until(lambda: "state='Valid'" in self.folder.type(looking.text)[-1])
-        self.prints(looking)
+        self.prints_at_last(looking)
 
     def programs_again(self) -> None:
         """The first two, at this run or at their second one."""
@@ -130,8 +144,7 @@ class Page(unittest.TestCase):
         self.write("look.c", '#include "trdp_slot.h"')
         compiling, looking = self.steps("$ gcc -std=c99 -Wall -Wextra -O2 -I clients/c -o look look.c")
         self.prints(compiling)
-        wait_until(lambda: self.folder.type(looking.text) != ["Silent, 7 bytes"])
-        self.prints(looking)
+        self.prints_at_last(looking)
 
     def tools(self) -> None:
         """trdp_dump beside the display's daemon, trdp_send, trdp_lua, and tshark."""

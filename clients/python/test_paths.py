@@ -17,8 +17,8 @@ import testing
 from test_controls import PAYLOAD
 from test_ports import DEVICE, HOME, Case, control, node
 from testing import CONTROL, MD, OPERATOR, PD, SECOND, Daemon, wait_until
-from trdp_slot import (Asked, Busy, Closed, Kinds, NoAnswer, Nobody, Notified, Operator, OtherSlot, Refused, Replied,
-                       Restarted, Silent, Slot)
+from trdp_slot import (Asked, Busy, Closed, Handle, Kinds, NoAnswer, Nobody, Notified, Operator, OtherSlot, Refused,
+                       Replied, Restarted, Silent, Slot, Value)
 
 QUOTAS = "publishers = 4\nsubscriptions = 4\nrequesters = 1\nlisteners = 2\ncallers = 2\nrepliers = 2"
 ANSWER_US = SECOND
@@ -69,14 +69,24 @@ class Clients(Case):
 class Both(Clients):
     """What is the same at both kinds, here at control sockets."""
 
+    def valid(self, slot: Slot, subscription: Handle) -> Value:
+        """What a subscription shows as soon as it is valid."""
+        shown: list[Value] = []
+
+        def is_valid() -> bool:
+            shown.append(slot.get(subscription))
+            return shown[-1].state == "Valid"
+
+        wait_until(is_valid)
+        return shown[-1]
+
     def test_process_data(self) -> None:
         self.starts()
         door, desk = self.slot(), self.slot(1)
         publisher = door.publish(100, f"{HOME}:{PD}", cycle_us=10_000)
         door.put(publisher, b"\x0a\x0b")
         subscription = desk.subscribe(100, time_us=200_000)
-        wait_until(lambda: desk.get(subscription).state == "Valid")
-        self.assertEqual(desk.get(subscription).value, b"\x0a\x0b")
+        self.assertEqual(self.valid(desk, subscription).value, b"\x0a\x0b")
         door.unpublish(publisher)
         self.assertEqual(self.told(desk, Silent), Silent(subscription))
         self.assertRaises(Refused, door.put, publisher, b"")
@@ -283,7 +293,10 @@ class Connections(Clients):
         self.starts()
         slot = self.slot()
         slot.listen(1)
-        child = subprocess.Popen([sys.executable, "-c", "input()"], stdin=subprocess.PIPE, close_fds=False)
+        child = subprocess.Popen([sys.executable, "-c", "input('it runs')"], stdin=subprocess.PIPE,
+                                 stdout=subprocess.PIPE, close_fds=False)
+        assert child.stdout is not None
+        self.assertEqual(child.stdout.read(7), b"it runs")
         slot.close()
         self.slot().sync()
         child.communicate(b"\n", timeout=20)

@@ -13,6 +13,8 @@ from testing import CONTROL, MD, OPERATOR, PD, PROGRAM, Daemon, wait_until
 
 Socket = socket.socket
 HOME, KEPT, DEVICE = "127.0.8.5", "127.0.8.6", "127.0.8.7"
+# How many seconds a socket waits for what has to come.
+PATIENCE = 20.0
 
 # The first telegram of comId 100 with the dataset 0a0b, under zlib's frame check.
 TELEGRAM = bytes.fromhex("00000000 01005064 00000064 00000000 00000000 00000002 00000000 00000000 00000000"
@@ -46,11 +48,11 @@ class Case(unittest.TestCase):
         return daemon
 
     def socket(self, address: str, port: int = 0, to: tuple[str, int] | None = None) -> Socket:
-        """A socket there, which sends to that place and waits for two seconds at most."""
+        """A socket there, which sends to that place."""
         port_socket = socket.socket(socket.AF_INET, socket.SOCK_DGRAM)
         self.addCleanup(port_socket.close)
         port_socket.bind((address, port))
-        port_socket.settimeout(2)
+        port_socket.settimeout(PATIENCE)
         if to:
             port_socket.connect(to)
         return port_socket
@@ -68,7 +70,7 @@ class Case(unittest.TestCase):
         """Nothing more comes for a while."""
         client.settimeout(0.05)
         self.assertRaises(TimeoutError, client.recv, 65536)
-        client.settimeout(2)
+        client.settimeout(PATIENCE)
 
 
 class Ports(Case):
@@ -171,7 +173,7 @@ class Ends(unittest.TestCase):
         with tempfile.NamedTemporaryFile("w", suffix=".toml") as file:
             file.write(config)
             file.flush()
-            how: dict[str, Any] = {"stdout": subprocess.PIPE, "stderr": subprocess.PIPE, "text": True, "timeout": 20,
+            how: dict[str, Any] = {"stdout": subprocess.PIPE, "stderr": subprocess.PIPE, "text": True, "timeout": 60,
                                    **streams}
             ran = subprocess.run([PROGRAM, words[0], file.name, *words[1:]], **how)
             return ran.returncode, ran.stdout, ran.stderr

@@ -1,28 +1,31 @@
 """What a daemon does by the clock: that it rests, and for how long, and how often it prints its totals.
 
 Nothing may come earlier than promised, nor more of it: that is bounded so that no other work on the machine matters.
-That something comes, and in what time, has a margin, and is tried three times at most. All tests wait side by side.
+That something comes, and in what time, has a margin, and is tried several times. All tests wait side by side.
 """
 from __future__ import annotations
 
 import os
 import signal
 import socket
+import struct
 import time
 import unittest
 from collections.abc import Callable
 from concurrent.futures import Future, ThreadPoolExecutor
 from itertools import pairwise
 
-from test_edge import TRIES, is_in, pid
+from test_edge import is_in, pid
 from testing import CONTROL, MD, PD, Daemon, wait_until
 
 DEVICE = "127.0.8.50"
 CYCLE = 0.1
 # For how many seconds a daemon is looked at that has nothing to do, and how many of a processor it may take meanwhile.
 IDLE_SECONDS, IDLE_MOST = 2.0, 0.2
-# How long what comes within a second is waited for.
-PATIENCE = 8.0
+# How long what comes within a second is waited for, and how often at most something is tried that has a margin.
+PATIENCE, TRIES = 20.0, 8
+# Linux: the system says when each datagram came.
+SO_TIMESTAMPNS = 35
 
 
 def started(number: int, *words: str) -> Daemon:
@@ -43,23 +46,35 @@ def asked(number: int, *lines: str) -> list[str]:
     return answers
 
 
+def next_telegram(device: socket.socket, seconds: float) -> tuple[int, float]:
+    """The counter of the next telegram that comes within some time, and when it came, though it is read later."""
+    device.settimeout(seconds)
+    data, told, _, _ = device.recvmsg(65536, 64)
+    (_, _, stamp), = told
+    whole, nanoseconds = struct.unpack("qq", stamp)
+    return int.from_bytes(data[:4], "big"), whole + nanoseconds / 1e9
+
+
 def telegrams(number: int, seconds: float) -> list[float]:
-    """When the telegrams of a new publisher of that node come, within some time."""
+    """When the telegrams of a new publisher of that node come, within some time from the first one on."""
     with socket.socket(socket.AF_INET, socket.SOCK_DGRAM) as device:
         device.bind((DEVICE, 0))
+        device.setsockopt(socket.SOL_SOCKET, SO_TIMESTAMPNS, 1)
         start = time.monotonic()
         publish = f"publish 100 0 {int(CYCLE * 1e6)} 0 0 0 {DEVICE}:{device.getsockname()[1]}"
         answers = asked(number, publish, "put 1 0a0b")
         assert answers == ["0 handle 1\n", "0 done\n"], answers
         came: list[float] = []
-        while (left := start + seconds - time.monotonic()) > 0:
-            device.settimeout(left)
+        end = start + PATIENCE
+        while (left := end - time.monotonic()) > 0:
             try:
-                counter = int.from_bytes(device.recv(65536)[:4], "big")
+                counter, moment = next_telegram(device, left)
             except TimeoutError:
                 break
             assert counter == len(came), f"{counter} is the counter of telegram {len(came)}"
-            came.append(time.monotonic())
+            came.append(moment)
+            if counter == 0:
+                end = time.monotonic() + seconds
         # The turn that takes the call may have read its clock just before.
         most = int((time.monotonic() - start) / CYCLE) + 1
     assert len(came) <= most, f"{len(came)} telegrams, at most {most} are due"
@@ -88,6 +103,8 @@ def keep_a_cycle() -> None:
     for _ in range(TRIES):
         daemon = started(51)
         try:
+            # A turn that had begun before may have read its clock long before it takes the call.
+            wait_until(lambda: is_in(daemon, "S"))
             came = telegrams(51, seconds)
         finally:
             daemon.close()

@@ -109,7 +109,7 @@ class Dump:
 
     def lines(self) -> list[str]:
         """What it printed, once it has ended."""
-        out, err = self.process.communicate(timeout=20)
+        out, err = self.process.communicate(timeout=60)
         if self.process.returncode or err:
             raise AssertionError(self.begun + err)
         return out.splitlines()
@@ -132,21 +132,24 @@ class Tools(unittest.TestCase):
         self.toml = self.folder / "node.toml"
         self.toml.write_text(CONFIG)
 
-    def send_all(self) -> str:
-        """Sends the telegrams. Answers where they come from."""
+    def send(self, count: int = len(DUMPED)) -> str:
+        """Sends the telegrams, or the first ones. Answers where they come from."""
         with socket.socket(socket.AF_INET, socket.SOCK_DGRAM) as out:
             out.bind((SOURCE, 0))
-            for place, data in self.telegrams:
+            for place, data in self.telegrams[:count]:
                 address, port = place.split(":")
                 out.sendto(data, (address, int(port)))
-                # They come to two ports: so they are read in their order.
-                time.sleep(0.005)
             return f"{SOURCE}:{out.getsockname()[1]}"
+
+    @staticmethod
+    def in_order(lines: list[str]) -> list[str]:
+        """What was printed, by its port: they come to two, and the order of each alone is kept."""
+        return sorted(lines, key=lambda it: it.startswith("M"))
 
     def test_lines(self) -> None:
         dump = Dump(["--toml", str(self.toml)], len(DUMPED))
-        source = self.send_all()
-        self.assertEqual(dump.lines(), [it.format(source) for it in DUMPED])
+        source = self.send()
+        self.assertEqual(self.in_order(dump.lines()), [it.format(source) for it in DUMPED])
 
     def test_filters(self) -> None:
         filters: list[tuple[list[str], Callable[[str], bool]]] = [
@@ -157,12 +160,12 @@ class Tools(unittest.TestCase):
         for words, is_wanted in filters:
             wanted = [it for it in DUMPED if is_wanted(it)]
             dump = Dump(["--toml", str(self.toml), *words], len(wanted))
-            source = self.send_all()
-            self.assertEqual(dump.lines(), [it.format(source) for it in wanted])
+            source = self.send()
+            self.assertEqual(self.in_order(dump.lines()), [it.format(source) for it in wanted])
 
     def test_without_a_file_the_payload_is_bytes(self) -> None:
         dump = Dump(["--time"], 1)
-        source = self.send_all()
+        source = self.send(1)
         moment, line = dump.lines()[0].split(" ", 1)
         self.assertAlmostEqual(float(moment), time.time(), delta=20)
         self.assertEqual(line, f"Pd comId=2101 counter=0 counts=0,0 from={source} length=7 data=04000200000102")
@@ -180,23 +183,25 @@ class Tools(unittest.TestCase):
 
     def test_it_ends_by_its_time(self) -> None:
         line = [sys.executable, "-W", "error", str(HERE / "trdp_dump.py"), DUMP, "--for-us", "1000"]
-        self.assertEqual(subprocess.run(line, capture_output=True, timeout=20).returncode, 0)
+        self.assertEqual(subprocess.run(line, capture_output=True, timeout=60).returncode, 0)
 
     @unittest.skipUnless(os.geteuid() == 0, "what comes to another program's ports can be copied by root alone")
     def test_beside_the_program_that_has_the_ports(self) -> None:
         with socket.socket(socket.AF_INET, socket.SOCK_DGRAM) as taken:
             taken.bind((DUMP, PD))
             dump = Dump(["--toml", str(self.toml), "--beside"], len(DUMPED))
-            source = self.send_all()
+            source = self.send()
+            # They come to one socket here.
             self.assertEqual(dump.lines(), [it.format(source) for it in DUMPED])
+            taken.settimeout(20)
             self.assertEqual(taken.recv(65536), self.telegrams[0][1])
-            ran = subprocess.run([sys.executable, str(HERE / "trdp_dump.py"), DUMP], capture_output=True, timeout=20)
+            ran = subprocess.run([sys.executable, str(HERE / "trdp_dump.py"), DUMP], capture_output=True, timeout=60)
             self.assertEqual(ran.returncode, 1)
 
     def test_send_gives_the_same_telegrams(self) -> None:
         with socket.socket(socket.AF_INET, socket.SOCK_DGRAM) as port:
             port.bind((OTHER, 0))
-            port.settimeout(10)
+            port.settimeout(20)
             place = f"{OTHER}:{port.getsockname()[1]}"
             for words, (_, data) in zip(SENT, self.telegrams, strict=True):
                 if words is not None:
@@ -209,7 +214,7 @@ class Tools(unittest.TestCase):
         """What trdp_send.py sends."""
         words = [it.replace("{toml}", str(self.toml)) for it in words]
         line = [sys.executable, "-W", "error", str(HERE / "trdp_send.py"), place, *words]
-        ran = subprocess.run(line, capture_output=True, timeout=20)
+        ran = subprocess.run(line, capture_output=True, timeout=60)
         self.assertEqual((ran.returncode, ran.stderr), (0, b""))
         return [port.recv(65536) for _ in range(count)]
 
@@ -220,7 +225,7 @@ class Tools(unittest.TestCase):
             (["--com-id", "1", *toml, "--value", "[1]"], "names no dataset for comId 1"),
         ]:
             line = [sys.executable, str(HERE / "trdp_send.py"), f"{OTHER}:9", *words]
-            ran = subprocess.run(line, capture_output=True, timeout=20, text=True)
+            ran = subprocess.run(line, capture_output=True, timeout=60, text=True)
             self.assertEqual(ran.returncode, 1)
             self.assertIn(fault, ran.stderr)
 
@@ -233,7 +238,7 @@ class Tools(unittest.TestCase):
     def test_the_dissector_shows_the_same(self) -> None:
         file = self.folder / "given.pcapng"
         dump = Dump(["--toml", str(self.toml), "--pcapng", str(file)], len(DUMPED))
-        self.send_all()
+        self.send()
         lines = dump.lines()
         script = self.folder / "datasets.lua"
         with open(script, "wb") as out:
@@ -250,8 +255,8 @@ class Tools(unittest.TestCase):
             self.assertIn(f" length={length} ", line)
             self.assertEqual(status, "1")
             self.assertEqual(value, line.partition(" value=")[2])
-        self.assertEqual([Datasets.from_toml(self.toml).pack(6001, eval(shown.splitlines()[1].split("|")[6])).hex()],
-                         [VALUE_6001])
+        value = next(it.split("|")[6] for it in shown.splitlines() if it.startswith("2102|"))
+        self.assertEqual(Datasets.from_toml(self.toml).pack(6001, eval(value)).hex(), VALUE_6001)
 
 
 if __name__ == "__main__":

@@ -13,7 +13,6 @@ import struct
 import subprocess
 import sys
 import tempfile
-import time
 import types
 import unittest
 from unittest import mock
@@ -208,14 +207,17 @@ class Traps(Case):
 
     def test_a_reader_that_ends_and_a_full_device(self) -> None:
         telegram = trdp_telegram.Telegram("Pd", 1).write()
-        for into, said in [("| true", "trdp_dump.py: Broken pipe"),
-                           ("> /dev/full", "trdp_dump.py: No space left on device")]:
-            line = f"{sys.executable} {HERE}/trdp_dump.py {DUMP} --count 1 --for-us 20000000 {into}"
-            with subprocess.Popen(line, shell=True, stderr=subprocess.PIPE, text=True) as dump:
+        read, unread = os.pipe()
+        os.close(read)
+        for into, said in [(unread, "trdp_dump.py: Broken pipe"),
+                           (os.open("/dev/full", os.O_WRONLY), "trdp_dump.py: No space left on device")]:
+            line = [sys.executable, str(HERE / "trdp_dump.py"), DUMP, "--count", "1", "--for-us", "50000000"]
+            with subprocess.Popen(line, stdout=into, stderr=subprocess.PIPE, text=True) as dump, \
+                    socket.socket(socket.AF_INET, socket.SOCK_DGRAM) as out:
+                os.close(into)
                 assert dump.stderr is not None
                 dump.stderr.readline()
-                with socket.socket(socket.AF_INET, socket.SOCK_DGRAM) as out:
-                    testing.wait_until(lambda: dump.poll() is not None or out.sendto(telegram, (DUMP, 17224)) < 0, 20)
+                out.sendto(telegram, (DUMP, 17224))
                 self.assertEqual(dump.stderr.read().splitlines(), [said])
 
 
@@ -224,6 +226,18 @@ def packet_of(data: bytes, length: int | None = None, words: int = 5, version: i
     udp = struct.pack(">4H", 9, 17224, 8 + len(data) if length is None else length, 0)
     head = bytes([version << 4 | words]) + bytes(11) + socket.inet_aton(SOURCE) + socket.inet_aton(DUMP)
     return head.ljust(words * 4, b"\0") + udp + data
+
+
+def drops_at(place: tuple[str, int]) -> list[int]:
+    """How many datagrams the system dropped at each socket that has that UDP port."""
+    number, = struct.unpack("=I", socket.inet_aton(place[0]))
+    rows = [it.split() for it in pathlib.Path("/proc/net/udp").read_text().splitlines()]
+    return [int(it[-1]) for it in rows if it[1] == f"{number:08X}:{place[1]:04X}"]
+
+
+def is_asleep(number: int) -> bool:
+    """Whether a process waits for something."""
+    return pathlib.Path(f"/proc/{number}/stat").read_text().rpartition(")")[2].split()[0] == "S"
 
 
 class Unread(Case):
@@ -268,9 +282,11 @@ class Unread(Case):
                 dump.stderr.readline()
                 for packet in packets:
                     raw.sendto(packet, (DUMP, 0))
-                time.sleep(0.05)
+                if not words:
+                    # The system doesn't tell of a wrong one where a right one is there behind it.
+                    testing.wait_until(lambda: drops_at((DUMP, 17224)) == [1] and is_asleep(dump.pid))
                 out.sendto(telegram, (DUMP, 17224))
-                said, told = dump.communicate(timeout=20)
+                said, told = dump.communicate(timeout=60)
             self.assertEqual((dump.returncode, told), (0, f"trdp_dump.py: {count} datagrams couldn't be read\n"))
             self.assertTrue(said.startswith("Pd comId=1 "))
 

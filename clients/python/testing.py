@@ -1,6 +1,7 @@
 """What the tests of the clients use: daemons, and a network before one that loses and doubles."""
 from __future__ import annotations
 
+import contextlib
 import ctypes
 import functools
 import os
@@ -27,13 +28,15 @@ SECOND = 1_000_000
 SEED = int(os.environ.get("TRDP_SEED") or random.randrange(1 << 32))
 
 
-def wait_until(is_so: Callable[[], bool], seconds: float = 5) -> None:
-    """Waits until something is so."""
+def wait_until(is_so: Callable[[], bool], seconds: float = 20) -> None:
+    """Waits until something is so. It is looked at once more after that time: this process may have stood still."""
     end = time.monotonic() + seconds
+    is_last = False
     while not is_so():
-        if time.monotonic() > end:
+        if is_last:
             raise AssertionError(f"not so within {seconds} s")
         time.sleep(0.002)
+        is_last = time.monotonic() > end
 
 
 # Of a daemon's stream: it goes to a file.
@@ -52,11 +55,11 @@ def open_ends() -> set[str]:
 def has_ends(pid: int, config: str) -> bool:
     """Whether a daemon of a configuration has all that it names: each port is bound, or listens at its path."""
     held = set()
-    for number in os.listdir(f"/proc/{pid}/fd"):
-        try:
-            held.add(os.readlink(f"/proc/{pid}/fd/{number}"))
-        except FileNotFoundError:
-            pass
+    # Those of a process that has just ended are gone, or root's.
+    with contextlib.suppress(PermissionError):
+        for number in os.listdir(f"/proc/{pid}/fd"):
+            with contextlib.suppress(FileNotFoundError):
+                held.add(os.readlink(f"/proc/{pid}/fd/{number}"))
     # A spare port is one at most; a group has two ports.
     groups = re.search(r"^groups = \[(.*)\]", config, re.MULTILINE)
     lines = sum(config.count(it) for it in ("\noperator_port", "\nspare_control_ports", "\ncontrol_port"))
@@ -95,13 +98,15 @@ def has_groups() -> bool:
     """Whether what is sent to a group on this machine comes back, as one datagram says."""
     try:
         with join("127.0.0.1", "239.192.8.99") as joined, sender("127.0.0.1") as out:
-            joined.settimeout(1)
+            joined.settimeout(5)
             out.sendto(b"probe", joined.getsockname())
             return joined.recv(100) == b"probe"
     except OSError:
         return False
 
 
+# Of how many clients a network keeps a socket, the latest ones: each try of a client may be of a new one.
+BACKS = 200
 NO_GROUPS = "no datagram to a group comes back on this machine"
 
 
@@ -147,7 +152,7 @@ class Daemon:
             line = ["sh", "-c", f'exec "$0" "$@" {closed}', PROGRAM, "daemon", str(self.path), *self.words]
             self.process = subprocess.Popen(line[3 * (not closed):], stdout=output, stderr=error, umask=self.umask)
         config = self.path.read_text()
-        wait_until(lambda: self.process.poll() is not None or has_ends(self.process.pid, config), seconds=20)
+        wait_until(lambda: self.process.poll() is not None or has_ends(self.process.pid, config), seconds=60)
         if self.process.poll() is not None:
             raise RuntimeError(f"the daemon ended: {errors.read_text()}")
 
@@ -174,7 +179,7 @@ class Daemon:
 class Connection:
     """A connection at a path, which says lines and hears texts."""
 
-    def __init__(self, path: str, seconds: float = 5) -> None:
+    def __init__(self, path: str, seconds: float = 20) -> None:
         """Connects as soon as somebody listens there."""
         self.socket = socket.socket(socket.AF_UNIX, socket.SOCK_STREAM)
         self.heard = b""
@@ -195,7 +200,7 @@ class Connection:
         """Says lines, all at once."""
         self.socket.sendall(b"".join(it + b"\n" for it in lines))
 
-    def hear(self, seconds: float = 5) -> bytes:
+    def hear(self, seconds: float = 20) -> bytes:
         """The next line, with its end; at the end of the connection what is left, as nothing."""
         end = time.monotonic() + seconds
         while b"\n" not in self.heard:
@@ -212,7 +217,7 @@ class Connection:
         line, _, self.heard = self.heard.partition(b"\n")
         return line + b"\n"
 
-    def hear_all(self, seconds: float = 5) -> list[bytes]:
+    def hear_all(self, seconds: float = 20) -> list[bytes]:
         """All lines up to the end of the connection."""
         lines = []
         while line := self.hear(seconds):
@@ -273,7 +278,7 @@ def play(config: str, script: str) -> list[str]:
     with tempfile.TemporaryDirectory() as folder:
         path = pathlib.Path(folder) / "node.toml"
         path.write_text(config)
-        ran = subprocess.run([PROGRAM, "run", str(path)], input=script.encode(), capture_output=True, timeout=20)
+        ran = subprocess.run([PROGRAM, "run", str(path)], input=script.encode(), capture_output=True, timeout=60)
     if ran.returncode:
         raise AssertionError(ran.stderr.decode())
     return ran.stdout.decode().splitlines()
@@ -344,22 +349,26 @@ class Relay(threading.Thread):
             if self.front in ready:
                 data, client = self.front.recvfrom(65536)
                 back = self.back(client)
-                for _ in range(self.times() if self.both_ways else 1):
+                for _ in range(self.times(data) if self.both_ways else 1):
                     back.send(data)
             for client, back in list(self.backs.items()):
                 if back in ready:
                     data = back.recv(65536)
-                    for _ in range(self.times()):
+                    for _ in range(self.times(data)):
                         self.front.sendto(data, client)
 
     def back(self, client: tuple[str, int]) -> socket.socket:
         """The socket that plays a client."""
-        if client not in self.backs:
-            self.backs[client] = socket.socket(socket.AF_INET, socket.SOCK_DGRAM)
-            self.backs[client].connect(self.to)
-        return self.backs[client]
+        back = self.backs.pop(client, None)
+        if back is None:
+            back = socket.socket(socket.AF_INET, socket.SOCK_DGRAM)
+            back.connect(self.to)
+        self.backs[client] = back
+        if len(self.backs) > BACKS:
+            self.backs.pop(next(iter(self.backs))).close()
+        return back
 
-    def times(self) -> int:
+    def times(self, data: bytes) -> int:
         """How often a datagram is brought."""
         if self.chance.randrange(self.lost) == 0:
             self.counts["lost"] += 1

@@ -13,7 +13,7 @@ import train  # noqa: E402
 from train import DATASET, say  # noqa: E402
 from trdp_slot import Alive, Closed, Replied, Silent, Slot  # noqa: E402
 
-ASK_US = 1_000_000
+ASK_US = 2_000_000
 """How long it waits for answers. It doesn't know how many devices there are."""
 
 

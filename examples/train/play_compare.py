@@ -70,10 +70,14 @@ def must_lose_none(before: Totals, after: Totals) -> None:
 def swallowed_of(display: Device, down: float, lost: int) -> int:
     """How many telegrams of doors 1 a display misses since its link went down: one more or less than were lost.
 
-    Each of these telegrams went out twice, to the group and to diagnosis.
+    Each of these telegrams went out twice, to the group and to diagnosis. Those before the link was down may be shown
+    after that moment.
     """
     latest = latest_counter(display, down)
-    swallowed = min(it for it in display.shows(0) if it > latest) - latest - 1
+    shown = sorted(it for it in display.shows(0) if it >= latest)
+    swallowed = max(after - before - 1 for before, after in zip(shown, shown[1:]))
     if abs(swallowed - lost) > 1:
-        raise Differs(f"{lost} telegrams are counted as lost, and {swallowed} to the group were swallowed")
+        # A display that is late misses further ones.
+        kind = Unsteady if swallowed > lost else Differs
+        raise kind(f"{lost} telegrams are counted as lost, and {swallowed} to the group were swallowed")
     return swallowed

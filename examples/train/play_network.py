@@ -8,7 +8,7 @@ import subprocess
 CLONE_NEWNET = 0x40000000
 LINK = "train0"
 """The name that the link of each device has in the device's namespace."""
-WAIT = 8.0
+WAIT = 30.0
 """How many seconds a command may take, and each thing that the train waits for."""
 
 

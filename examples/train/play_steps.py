@@ -116,10 +116,10 @@ def refusing(train: Train) -> list[str]:
     train.doors_1.set_link("down")
     train.wait("three telegrams are refused", lambda: train.doors_1.totals().lost >= before.lost + 3)
     train.wait_for(train.doors_2, "leads", down)
-    lost = train.doors_1.totals().lost - before.lost
     up = time.monotonic()
     train.doors_1.set_link("up")
     heard = max(train.wait_for_telegram(it, 1, up).at for it in train.displays)
+    lost = train.doors_1.totals().lost - before.lost
     train.wait_for(train.doors_2, "follows", up)
     why = f"{DIAGNOSIS}:{PD}: Network is unreachable"
     train.wait(f"doors 1 says {why}", lambda: why in train.doors_1.errors("daemon").read_text())

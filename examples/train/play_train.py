@@ -11,7 +11,7 @@ from play_device import Device, Differs, Seen
 from play_network import WAIT, Network
 from train import ALL, DIAGNOSIS, DOORS, SEEN
 
-ALL_OF_IT = 55.0
+ALL_OF_IT = 300.0
 """How many seconds the whole play may take."""
 
 

@@ -22,7 +22,7 @@ CYCLE_US, SUPERVISION_US = 200_000, 2_000_000
 """How often the status goes out, and how long its receivers wait for it."""
 TAKEOVER_US = 3 * CYCLE_US
 """How long the follower waits for the leader: three telegrams, so that one that is lost means nothing."""
-PATIENCE_US = 2_000_000
+PATIENCE_US = 20_000_000
 """How long an application waits for an answer, on a machine that is busy with other things."""
 
 
