@@ -1,5 +1,5 @@
-"""What can be counted or compared in the repository, for docs/check_names: the numbers, the map's crates, modules and
-trees of calls, and the configurations with all keys."""
+"""What can be counted or compared in the repository, for docs/tools/check_names: the numbers, the map's crates, modules
+and trees of calls, and the configurations with all keys."""
 from __future__ import annotations
 
 import ast

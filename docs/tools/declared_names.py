@@ -1,4 +1,5 @@
-"""The names that the repository declares, for docs/check_names, which looks the words of the documents up in them."""
+"""The names that the repository declares, for docs/tools/check_names, which looks up the words of the documents in
+them."""
 from __future__ import annotations
 
 import ast
@@ -8,7 +9,7 @@ import re
 import subprocess
 from collections.abc import Iterator
 
-TOP = pathlib.Path(__file__).resolve().parent.parent
+TOP = pathlib.Path(__file__).resolve().parents[2]
 # The program's own tables: what they have between quotes are words that it reads or prints.
 WORD_TABLES = (
     "trdp_dataset/src/key.rt", "trdp_dataset/src/element.rt", "trdp_script/src/form.rt", "trdp_script/src/words.rt",

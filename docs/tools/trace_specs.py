@@ -1,4 +1,5 @@
-"""The definitions of crates/*/specs, for docs/trace: the rules that each is of, its words, and what it is built on."""
+"""The definitions of crates/*/specs, for docs/tools/trace: the rules that each is of, its words, and what it is built
+on."""
 from __future__ import annotations
 
 import dataclasses

@@ -1,4 +1,5 @@
-"""What shows a rule, for docs/trace: the wrong bodies of crates/*/must-fail, the rows and the tests that name it."""
+"""What shows a rule, for docs/tools/trace: the wrong bodies of crates/*/must-fail, the rows and the tests that name
+it."""
 from __future__ import annotations
 
 import ast

@@ -1,4 +1,4 @@
-"""The rules that docs/PROFILE.md and docs/SCRIPT.md name, for docs/trace."""
+"""The rules that docs/PROFILE.md and docs/SCRIPT.md name, for docs/tools/trace."""
 from __future__ import annotations
 
 import dataclasses
@@ -76,5 +76,5 @@ def rules(top: pathlib.Path) -> tuple[list[Rule], list[str]]:
                 if name in found or name.split(".")[0] not in TOPICS:
                     faults.append(f"{page}: {name}: is said twice, or is of no topic")
                 found[name] = Rule(name, page, re.findall(r"`([^`]+)`", definitions), bold or plain)
-    faults += [f"docs/trace_pages.py: {name}: no page has this rule" for name in PROMISES if name not in found]
+    faults += [f"docs/tools/trace_pages.py: {name}: no page has this rule" for name in PROMISES if name not in found]
     return list(found.values()), faults

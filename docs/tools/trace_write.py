@@ -1,4 +1,4 @@
-"""The text of docs/TRACE.md, for docs/trace."""
+"""The text of docs/TRACE.md, for docs/tools/trace."""
 from __future__ import annotations
 
 import textwrap
@@ -10,7 +10,7 @@ from trace_pages import TOPICS, Rule
 WIDTH = 120
 HOLDERS = 5
 LAWS = 2
-FRONT = "docs/trace_front.md"
+FRONT = "docs/tools/trace_front.md"
 
 
 def wrapped(text: str, indent: str = "") -> str:

@@ -1,4 +1,4 @@
-"""All that is known of the rules, for docs/trace, and what is wrong with it."""
+"""All that is known of the rules, for docs/tools/trace, and what is wrong with it."""
 from __future__ import annotations
 
 import dataclasses

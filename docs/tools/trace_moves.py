@@ -1,4 +1,5 @@
-"""Tries whether docs/trace notices a remark that was moved to another definition, a wrong body, a row or a test."""
+"""Tries whether docs/tools/trace notices a remark that was moved to another definition, a wrong body, a row or a
+test."""
 from __future__ import annotations
 
 import pathlib

@@ -1,4 +1,5 @@
-"""The contracts of crates/*/src, for docs/trace: each function with its clauses and the definitions that they name."""
+"""The contracts of crates/*/src, for docs/tools/trace: each function with its clauses and the definitions that they
+name."""
 from __future__ import annotations
 
 import dataclasses
