@@ -158,9 +158,8 @@ def look_into(folder: pathlib.Path) -> None:
     """Uses what is unpacked."""
     modules = f"{folder}/{MODULES}"
     look_at(["usr/bin/trdpd", "check", "etc/trdpd/node.toml"], folder, "node 127.0.0.1: process data at port 17224")
-    for tool in ("trdp-dump", "trdp-send"):
-        look_at([sys.executable, f"usr/bin/{tool}", "--help"], folder, "usage: trdp", PYTHONPATH=modules)
     for tool in ("trdp-dump", "trdp-lua", "trdp-send"):
+        look_at([sys.executable, f"usr/bin/{tool}", "--help"], folder, f"usage: {tool} ", PYTHONPATH=modules)
         look_at_page(folder, tool)
     look_at([sys.executable, "-c", "import trdp_slot"], folder, "", PYTHONPATH=modules)
     look_at([sys.executable, "usr/bin/trdp-lua", DOOR], folder, "-- The datasets of comIds", PYTHONPATH=modules)

@@ -192,6 +192,18 @@ class Traps(Case):
                 self.is_sentence(name, said, words)
                 self.assertIn(sentence, said)
 
+    def test_the_generator_wants_one_file(self) -> None:
+        traps: list[list[str]] = [[], ["node.toml", "node.toml"], ["-"], ["--", "-"], ["--jump"], ["--he"]]
+        for words in traps:
+            self.assertEqual(run(trdp_lua, words), (2, "usage: trdp_lua.py FILE\n"), words)
+
+    def test_help(self) -> None:
+        for name in ("trdp_dump.py", "trdp_lua.py", "trdp_send.py"):
+            ran = subprocess.run([sys.executable, "-W", "error", str(HERE / name), "--help"], capture_output=True,
+                                 text=True, timeout=60)
+            self.assertEqual((ran.returncode, ran.stderr), (0, ""), name)
+            self.assertTrue(ran.stdout.startswith(f"usage: {name} "), ran.stdout)
+
     def test_words_that_are_meant_and_cant_be_done(self) -> None:
         for tool, words, sentence in UNDONE:
             status, said = run(tool, words)

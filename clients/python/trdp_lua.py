@@ -14,11 +14,15 @@ for each comId. The node ignores these.
 """
 from __future__ import annotations
 
+import argparse
+import functools
 import sys
+from typing import NoReturn
 
 import trdp_words
 from trdp_slot import Datasets, Element
 
+NAME = trdp_words.name_of("trdp_lua.py")
 HEAD = """\
 -- The datasets of comIds, a second script beside wireshark/trdp.lua. Written by clients/python/trdp_lua.py.
 """
@@ -40,21 +44,45 @@ def lua_table(datasets: Datasets) -> str:
     return "\n".join([*lines, "    },", "}", ""])
 
 
-def main(words: list[str]) -> int:
+class OneFile(trdp_words.Words):
+    """A command line of one file. Other words are answered by how it is written, and status 2."""
+
+    def error(self, message: str) -> NoReturn:
+        """Ends the program by that."""
+        self.exit(2, self.format_usage())
+
+
+@functools.cache
+def parser() -> OneFile:
+    """All words of the command line."""
+    words = OneFile(prog=NAME, usage="%(prog)s FILE", allow_abbrev=False,
+                    description="Writes the datasets of comIds for wireshark/trdp.lua, by which Wireshark and tshark "
+                                "show values in place of bytes.")
+    words.add_argument("file", metavar="FILE", help="a file with datasets, and [[telegram]] tables of comIds")
+    return words
+
+
+def parse(words: list[str] | None) -> argparse.Namespace:
+    """The words of the command line: these, or those of the program."""
+    asked = parser().parse_args(words)
+    if asked.file.startswith("-"):
+        parser().error("a file's name that begins with - is none here")
+    return asked
+
+
+def main(words: list[str] | None = None) -> int:
     """Exit status 0, 1 where the file can't be read, 2 for other words."""
-    if len(words) != 1 or words[0].startswith("-"):
-        print("usage: trdp_lua.py FILE", file=sys.stderr)
-        return 2
+    asked = parse(words)
     try:
-        datasets = trdp_words.datasets_of(words[0])
+        datasets = trdp_words.datasets_of(asked.file)
     except (OSError, ValueError) as fault:
-        print(f"trdp_lua.py: {trdp_words.sentence(fault)}", file=sys.stderr)
+        print(f"{NAME}: {trdp_words.sentence(fault)}", file=sys.stderr)
         return 1
     if not datasets.com_ids:
-        print(f"trdp_lua.py: {words[0]} has no [[telegram]] tables, so that no comId has a dataset", file=sys.stderr)
+        print(f"{NAME}: {asked.file} has no [[telegram]] tables, so that no comId has a dataset", file=sys.stderr)
     sys.stdout.write(lua_table(datasets))
     return 0
 
 
 if __name__ == "__main__":
-    sys.exit(main(sys.argv[1:]))
+    sys.exit(main())
