@@ -52,8 +52,8 @@ local fields = {
     replyStatus = ProtoField.int32("trdp.replyStatus", "replyStatus"),
     sessionId = ProtoField.guid("trdp.sessionId", "sessionId"),
     replyTimeout = ProtoField.uint32("trdp.replyTimeout", "replyTimeout", base.UNIT_STRING, { " microseconds" }),
-    sourceUri = ProtoField.string("trdp.sourceUri", "sourceUri"),
-    destinationUri = ProtoField.string("trdp.destinationUri", "destinationUri"),
+    sourceURI = ProtoField.string("trdp.sourceURI", "sourceURI"),
+    destinationURI = ProtoField.string("trdp.destinationURI", "destinationURI"),
     headerFcs = ProtoField.uint32("trdp.headerFcs", "headerFcs", base.HEX),
     headerFcsStatus = ProtoField.uint8("trdp.headerFcs.status", "headerFcs status", base.DEC, CHECK_STATES),
     padding = ProtoField.bytes("trdp.padding", "padding"),
@@ -69,7 +69,7 @@ local START = {
 }
 local PD_REST = { { "reserved", 4 }, { "replyComId", 4 }, { "replyIpAddress", 4 } }
 local MD_REST = {
-    { "replyStatus", 4 }, { "sessionId", 16 }, { "replyTimeout", 4 }, { "sourceUri", 32 }, { "destinationUri", 32 },
+    { "replyStatus", 4 }, { "sessionId", 16 }, { "replyTimeout", 4 }, { "sourceURI", 32 }, { "destinationURI", 32 },
 }
 local PD_HEADER_LENGTH = 40
 local MD_HEADER_LENGTH = 116
@@ -134,7 +134,7 @@ local function add_fields(list, buffer, offset, tree)
     for _, entry in ipairs(list) do
         local name, length = entry[1], entry[2]
         local range = buffer(offset, length)
-        if name == "sourceUri" or name == "destinationUri" then
+        if name == "sourceURI" or name == "destinationURI" then
             -- A URI ends at its first zero byte.
             tree:add(fields[name], range, range:raw():match("^[^%z]*"))
         else

@@ -244,17 +244,19 @@ class Tools(unittest.TestCase):
         with open(script, "wb") as out:
             subprocess.run([str(HERE / "trdp_lua.py"), str(self.toml)], stdout=out, check=True)
         names = ["comId", "sequenceCounter", "etbTopoCnt", "opTrnTopoCnt", "datasetLength", "headerFcs.status",
-                 "value"]
+                 "value", "sourceURI", "destinationURI"]
         words = [it for name in names for it in ("-e", f"trdp.{name}")]
         command = ["tshark", "-X", f"lua_script:{TOP}/wireshark/trdp.lua", "-X", f"lua_script:{script}", "-r",
                    str(file), "-T", "fields", "-E", "separator=|", *words]
-        shown = subprocess.run(command, capture_output=True, text=True, check=True, timeout=60).stdout
+        shown = subprocess.run(command, capture_output=True, encoding="utf-8", errors="replace", check=True,
+                               timeout=60).stdout
         for line, row in zip(lines, shown.splitlines(), strict=True):
-            com_id, counter, etb, op_trn, length, status, value = row.split("|")
+            com_id, counter, etb, op_trn, length, status, value, source, dest = row.split("|")
             self.assertIn(f" comId={com_id} counter={counter} counts={etb},{op_trn} ", line)
             self.assertIn(f" length={length} ", line)
             self.assertEqual(status, "1")
             self.assertEqual(value, line.partition(" value=")[2])
+            self.assertEqual((source, dest) == ("door", "car"), " uris=door>car " in line)
         value = next(it.split("|")[6] for it in shown.splitlines() if it.startswith("2102|"))
         self.assertEqual(Datasets.from_toml(self.toml).pack(6001, eval(value)).hex(), VALUE_6001)
 
