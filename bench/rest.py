@@ -185,16 +185,18 @@ def quiet_row(program: str, name: str, kind: Sequence[str], seconds: float) -> N
           f"{share(times, 0.5):16.0f}{share(times, 0.99):8.0f}")
 
 
-def flooded_times(program: str, kind: Sequence[str], flooded: str, slots: int = 2) -> list[float]:
-    """How long calls wait at a node with that many slots, one port of which is sent to without end, in microseconds."""
+def flooded_times(program: str, kind: Sequence[str], flooded: str, slots: int = 2, processes: int = 1) -> list[float]:
+    """How long calls wait at a node with that many slots, one port of which that many processes send to without end, in
+    microseconds."""
     port_of, datagram = FLOODS[flooded]
     node = Node(program, kind, slots)
-    child = flood(port_of(node), datagram)
+    children = [flood(port_of(node), datagram) for _ in range(processes)]
     try:
         return answer_times(node, lambda: 0.001)
     finally:
-        os.kill(child, signal.SIGKILL)
-        os.waitpid(child, 0)
+        for child in children:
+            os.kill(child, signal.SIGKILL)
+            os.waitpid(child, 0)
         node.end()
 
 
