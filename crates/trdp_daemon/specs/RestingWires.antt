@@ -17,14 +17,16 @@ use Rattle.trdp_daemon.specs.Told.{TellsMore}
 abbrev pub looks_first : (heard goes_on there : Bool) → Bool
 looks_first heard goes_on there = heard && (not goes_on && not there)
 
--- the system is asked for news, and the turn goes on without asking again
+-- the system is asked for news, and the turn goes on without asking again; nothing else changes
 pub record Looks {S C : Type 0} (calls_of : S → Option (List SocketCall))
     (old new : RestingWire S C) : Type 0 where
   pub waits : WaitsForNews 0 (calls_of old.wire.sockets) (calls_of new.wire.sockets)
       old.news new.news
-  pub goes_on : new.goes_on ≡ true
-  pub heard : new.heard ≡ old.heard
-  pub groups : new.wire.groups ≡ old.wire.groups
+  pub is : new ≡ record old {
+    wire = record old.wire { sockets = new.wire.sockets };
+    news = new.news;
+    goes_on = true;
+  }
 
 -- the same where it may not be asked
 abbrev pub LooksIf : {S C : Type 0} → Bool → (S → Option (List SocketCall))
@@ -40,10 +42,11 @@ pub record TakesAtNews {S C : Type 0} (calls_of : S → Option (List SocketCall)
   pub heard : Bool
   pub takes : TakesAtSocket old.wire.groups (calls_of old.wire.sockets)
       (calls_of new.wire.sockets) port room result old.wire.failures new.wire.failures heard
-  pub noted : new.heard ≡ old.heard || heard
-  pub news : new.news ≡ news_after heard (socket_of old.wire.groups port) old.news
-  pub goes_on : new.goes_on ≡ old.goes_on
-  pub groups : new.wire.groups ≡ old.wire.groups
+  pub is : new ≡ record old {
+    wire = record old.wire { sockets = new.wire.sockets; failures = new.wire.failures };
+    heard = old.heard || heard;
+    news = news_after heard (socket_of old.wire.groups port) old.news;
+  }
 
 -- a take where there are none asks nothing, and finds nothing
 abbrev pub TakesIfNews : {S C : Type 0} → Bool → (S → Option (List SocketCall))

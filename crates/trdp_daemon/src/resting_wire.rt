@@ -46,9 +46,9 @@ const BREATH: u64 = 50;
 /// are news of each port. News end at a take that found nothing. What arrives before that take is
 /// found by it. What arrives after it is an edge, which the next wait reports, whether it had
 /// begun before or not. What the system reports twice is taken once. A wait comes in each rest
-/// that isn't cut short, and in each turn that has none but the first after a rest: behind what
-/// was heard in it, at the first port of which there are no news, or else at its end. So a
-/// datagram that comes while another one is handled is taken in the same turn.
+/// that isn't cut short, and in each turn that has none but the first after a rest: once something
+/// was heard in it, at the next port of which there are no news, or else at its end. So a datagram
+/// that comes while another one is handled is taken in the same turn, if its port is still to come.
 #[derive(Drop)]
 pub struct RestingWire<S, C> {
     /// The ports.
@@ -219,8 +219,6 @@ impl<S: Sockets, C: Clock + Drop> RestingWire<S, C> {
         ensures looks { LooksIf (looks_first self.old.heard self.old.goes_on
             (has_news self.old.news (socket_of self.old.wire.groups port))) S.calls
             self.old self.new }
-        ensures failures { self.new.wire.failures ≡ self.old.wire.failures }
-        ensures refusal { self.new.wire.refusal ≡ self.old.wire.refusal }
     {
         if self.heard && !self.goes_on && !self.has_news(port) {
             self.wire.sockets.wait(0, &mut self.news);
@@ -261,10 +259,10 @@ impl<S: Sockets, C: Clock + Drop> RestingWire<S, C> {
         ensures pauses { PausesSo step reading
             (C.sleeps self.old.clock) (C.sleeps self.new.clock) self.old.busy self.new.busy }
         ensures unread { C.readings self.new.clock ≡ C.readings self.old.clock }
-        ensures wire { self.new.wire ≡ self.old.wire }
-        ensures news { self.new.news ≡ self.old.news }
-        ensures heard { self.new.heard ≡ self.old.heard }
-        ensures goes_on { self.new.goes_on ≡ self.old.goes_on }
+        ensures kept { self.new ≡ record self.old {
+          clock = self.new.clock;
+          busy = self.new.busy;
+        } }
     {
         match step {
             RestStep::GoOn | RestStep::Look => self.breathe(reading),
@@ -283,10 +281,10 @@ impl<S: Sockets, C: Clock + Drop> RestingWire<S, C> {
         ensures breathes { Breathes reading
             (C.sleeps self.old.clock) (C.sleeps self.new.clock) self.old.busy self.new.busy }
         ensures unread { C.readings self.new.clock ≡ C.readings self.old.clock }
-        ensures wire { self.new.wire ≡ self.old.wire }
-        ensures news { self.new.news ≡ self.old.news }
-        ensures heard { self.new.heard ≡ self.old.heard }
-        ensures goes_on { self.new.goes_on ≡ self.old.goes_on }
+        ensures kept { self.new ≡ record self.old {
+          clock = self.new.clock;
+          busy = self.new.busy;
+        } }
     {
         if is_breathless(self.busy, reading) {
             self.clock.sleep(BREATH);
@@ -324,8 +322,7 @@ impl<S: Sockets, C: Clock + Drop> Wire for RestingWire<S, C> {
             (S.calls self.new.wire.sockets) port to bytes.now result
             self.old.wire.failures self.new.wire.failures
             self.old.wire.refusal self.new.wire.refusal }
-        ensures heard { self.new.heard ≡ self.old.heard }
-        ensures news { self.new.news ≡ self.old.news }
+        ensures kept { self.new ≡ record self.old { wire = self.new.wire } }
         ensures groups { self.new.wire.groups ≡ self.old.wire.groups }
     {
         self.wire.give(port, to, bytes)
@@ -362,13 +359,9 @@ impl<S: Sockets, C: Clock + Drop> Wire for RestingWire<S, C> {
     }
 
     fn set_news(&mut self, port: Port, may_be: bool)
-        ensures news { self.new.news
-            ≡ slice_set self.old.news (socket_of self.old.wire.groups port) may_be }
-        ensures wire { self.new.wire ≡ self.old.wire }
-        ensures clock { self.new.clock ≡ self.old.clock }
-        ensures heard { self.new.heard ≡ self.old.heard }
-        ensures goes_on { self.new.goes_on ≡ self.old.goes_on }
-        ensures busy { self.new.busy ≡ self.old.busy }
+        ensures { self.new ≡ record self.old {
+          news = slice_set self.old.news (socket_of self.old.wire.groups port) may_be;
+        } }
     {
         set_news(&mut self.news, self.wire.groups.socket_of(port), may_be);
     }
