@@ -217,7 +217,8 @@ TakesAtPort takings_in gives_in ended_in calls_of has_news old new (Control slot
     room_then =
     IfNews has_news old new result
     (TakesAtControl calls_of slot old.controls.items new.controls.items room result room_then
-    old.failures × IsUnasked takings_in gives_in old.network new.network × (new.operator ≡ old.operator))
+    old.failures × IsUnasked takings_in gives_in old.network new.network
+    × (new.operator ≡ old.operator))
 
 -- a give at a port: to the network, or at the operator's path or that of a slot, and nowhere else
 abbrev pub GivesAtPort : {N C : Type 0} → (gives_in : N → Option (List Give))

@@ -7,8 +7,8 @@
 //! | 24 | replyStatus | i32 |
 //! | 28 | sessionId | 16 bytes |
 //! | 44 | replyTimeout | u32, microseconds |
-//! | 48 | sourceUri | 32 bytes, zeros after the text |
-//! | 80 | destinationUri | 32 bytes, zeros after the text |
+//! | 48 | sourceURI | 32 bytes, zeros after the text |
+//! | 80 | destinationURI | 32 bytes, zeros after the text |
 //! | 112 | headerFcs | u32, least significant byte first |
 
 mod layout;
@@ -67,9 +67,9 @@ pub struct MdHead {
     /// replyTimeout: of a request or query, within how many microseconds an answer is expected, as
     /// the header has it: 0 stays 0.
     pub timeout: u32,
-    /// sourceUri: the text that names the sender.
+    /// sourceURI: the text that names the sender.
     pub source_uri: Uri,
-    /// destinationUri: the text that names the receiver.
+    /// destinationURI: the text that names the receiver.
     pub dest_uri: Uri,
 }
 

@@ -41,9 +41,9 @@ pub struct Message<'a> {
     pub src: Place,
     /// comId: what message this is (IEC 61375-2-3).
     pub com_id: u32,
-    /// sourceUri: who says it; empty for no one in particular (IEC 61375-2-3).
+    /// sourceURI: who says it; empty for no one in particular (IEC 61375-2-3).
     pub source_uri: Uri,
-    /// destinationUri: to whom it is said; empty for no one in particular (IEC 61375-2-3).
+    /// destinationURI: to whom it is said; empty for no one in particular (IEC 61375-2-3).
     pub dest_uri: Uri,
     /// What it says, at most 65,388 bytes.
     pub payload: &'a [u8],

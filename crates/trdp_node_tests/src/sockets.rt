@@ -275,8 +275,8 @@ fn works_and_rests(rt: &(impl Abort + AllocGlobal), wire: &mut Resting) {
 
 /// A wire that rests reads no port again where it found nothing, before the system reports it. It
 /// asks the system in each turn without a rest but the first, and sleeps for a moment where there
-/// was none for 50 milliseconds. Where something was heard in such a turn, it asks behind that, at
-/// the first port of which there are no news, and then no more.
+/// was none for 50 milliseconds. Once something was heard in such a turn, it asks at the next port
+/// of which there are no news, and then no more.
 fn asks_where_news_are(rt: &(impl Abort + AllocGlobal), wire: &mut Resting) {
     let mut room = [0; 16];
     for found in [true, false, false] {

@@ -9,10 +9,10 @@ pub const SESSION: usize = 28;
 /// replyTimeout, 4 bytes.
 pub const TIMEOUT: usize = 44;
 
-/// sourceUri, 32 bytes.
+/// sourceURI, 32 bytes.
 pub const SOURCE_URI: usize = 48;
 
-/// destinationUri, 32 bytes.
+/// destinationURI, 32 bytes.
 pub const DEST_URI: usize = 80;
 
 /// headerFcs, 4 bytes: the frame check of all bytes before it.
