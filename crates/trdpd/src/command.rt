@@ -108,13 +108,34 @@ fn options_of<'a>(words: &ArgMatches<'a>) -> ServiceOptions<'a> {
 
 /// The words that are understood.
 fn command<'a>(alloc: Global) -> Result<Command<'a>, AllocError> {
-    let check = Command::new(alloc, "check")
+    Command::new(alloc, "trdpd")
+        .about("A communication node for the Train Real-time Data Protocol (TRDP, IEC 61375-2-3)")
+        .version(VERSION)
+        .after_help(EXAMPLE)
+        .subcommand_required(true)
+        .subcommand(check(alloc)?)?
+        .subcommand(run(alloc)?)?
+        .subcommand(serve(alloc)?)?
+        .subcommand(daemon(alloc)?)
+}
+
+/// The words that ask what a configuration means.
+fn check<'a>(alloc: Global) -> Result<Command<'a>, AllocError> {
+    Command::new(alloc, "check")
         .about("Say what a configuration means, or what is wrong with it")
         .arg(config(alloc))?
-        .arg(controls(alloc))?;
-    let run = Command::new(alloc, "run")
+        .arg(controls(alloc))
+}
+
+/// The words that ask for a script to be played.
+fn run<'a>(alloc: Global) -> Result<Command<'a>, AllocError> {
+    Command::new(alloc, "run")
         .about("Play the script at standard input; print what the node gives")
-        .arg(config(alloc))?;
+        .arg(config(alloc))
+}
+
+/// The words that ask for a number of turns.
+fn serve<'a>(alloc: Global) -> Result<Command<'a>, AllocError> {
     let turns = Arg::new(alloc, "turns")
         .long("turns")
         .value_name("N")
@@ -122,21 +143,12 @@ fn command<'a>(alloc: Global) -> Result<Command<'a>, AllocError> {
         .action(ArgAction::Set)
         .value_parser(value_parser!(u32))
         .help("How many turns to take");
-    let serve = Command::new(alloc, "serve")
+    Command::new(alloc, "serve")
         .about("Serve the node for N turns without a rest; print its totals")
         .arg(config(alloc))?
         .arg(turns)?
         .arg(controls(alloc))?
-        .arg(lease(alloc))?;
-    Command::new(alloc, "trdpd")
-        .about("A communication node for the Train Real-time Data Protocol (TRDP, IEC 61375-2-3)")
-        .version(VERSION)
-        .after_help(EXAMPLE)
-        .subcommand_required(true)
-        .subcommand(check)?
-        .subcommand(run)?
-        .subcommand(serve)?
-        .subcommand(daemon(alloc)?)
+        .arg(lease(alloc))
 }
 
 /// The words that ask for a daemon.
@@ -171,7 +183,7 @@ fn lease<'a>(alloc: Global) -> Arg<'a> {
         .value_name("SECONDS")
         .action(ArgAction::Set)
         .value_parser(value_parser!(u32).range(1..=86_400))
-        .help("After how many silent seconds of its application a slot begins anew")
+        .help("After how many silent seconds of its application a slot is reset")
 }
 
 /// The word that names the configuration file.
