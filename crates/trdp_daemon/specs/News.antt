@@ -1,7 +1,7 @@
 -- At which sockets something may be: where the system has reported news since a take found
 -- nothing.
 use Rattle.std.specs.Prelude.{◌≡◌, ℕ, List, [], ◌∷◌, Bool, true, false, if◌then◌else◌}
-use Rattle.std.specs.Prelude.{slice_index_or, slice_set, Option, Some, None}
+use Rattle.std.specs.Prelude.{slice_index_or, slice_set, length, replicate, Option}
 use Rattle.trdp_daemon.specs.Sockets.{SocketCall, Waits}
 use Rattle.trdp_daemon.specs.Told.{TellsMore}
 
@@ -14,6 +14,10 @@ abbrev pub with_news : List ℕ → List Bool → List Bool
 with_news [] news = news
 with_news (socket ∷ told) news = with_news told (slice_set news socket true)
 
+-- something may be at each
+abbrev pub all_news : List Bool → List Bool
+all_news news = replicate (length news) true
+
 -- the news after a take at a socket that found something or not
 abbrev pub news_after : Bool → ℕ → List Bool → List Bool
 news_after found socket news = if found then news else slice_set news socket false
@@ -24,10 +28,3 @@ pub record WaitsForNews (millis : ℕ) (calls calls_then : Option (List SocketCa
   pub told : List ℕ
   pub asked : TellsMore calls calls_then (Waits millis told ∷ [])
   pub noted : news_then ≡ with_news told news
-
--- the same of a wait that may not be made
-abbrev pub WaitsIf : Option ℕ → (calls calls_then : Option (List SocketCall))
-    → (news news_then : List Bool) → Type 0
-WaitsIf None calls calls_then news news_then = (calls_then ≡ calls) × (news_then ≡ news)
-WaitsIf (Some millis) calls calls_then news news_then =
-    WaitsForNews millis calls calls_then news news_then

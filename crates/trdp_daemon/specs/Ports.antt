@@ -1,6 +1,6 @@
 -- Ports, and those that a daemon takes datagrams from.
-use Rattle.std.specs.Prelude.{ℕ, suc, ◌==◌, if◌then◌else◌, List, [], ◌∷◌, ◌++◌, map}
-use Rattle.std.specs.Prelude.{Bool, true, false, slice_get, unwrap_or}
+use Rattle.std.specs.Prelude.{ℕ, suc, ◌+◌, ◌*◌, ◌==◌, nat_le, if◌then◌else◌, List, [], ◌∷◌, ◌++◌}
+use Rattle.std.specs.Prelude.{map, length, Bool, true, false, slice_get, unwrap_or}
 use Rattle.trdp_base.specs.declared.place.Place.{Place}
 use Rattle.trdp_dataset.specs.Configs.{ConfigModel}
 use Rattle.trdp_daemon.specs.declared.port.Port.{Port}
@@ -53,6 +53,12 @@ line_ports config =
 -- the ports of a daemon, in the order of a turn
 unfoldable pub ports_of : ConfigModel → List Port
 ports_of config = network_ports config ++ line_ports config
+
+-- whether a configuration names few ports: at most 6, among which the operator's and each slot's
+-- count even where it names none
+abbrev pub has_few_ports : ConfigModel → Bool
+has_few_ports config =
+    nat_le (3 + 2 * length config.groups + length (control_numbers config)) 6
 
 -- the socket address of a group's address and a port of that number
 abbrev pub group_place : ℕ → ℕ → Place

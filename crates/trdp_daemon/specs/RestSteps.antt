@@ -1,11 +1,11 @@
 -- What a rest of the resting wire does.
 use Rattle.std.specs.Prelude.{◌≡◌, ℕ, zero, suc, ◌+◌, ◌-◌, ◌/◌, nat_lt, List, [], ◌∷◌}
-use Rattle.std.specs.Prelude.{Bool, true, false, if◌then◌else◌, Option, Some, None}
+use Rattle.std.specs.Prelude.{nat_le, Bool, true, false, ◌&&◌, if◌then◌else◌, Option, Some, None}
 use Rattle.trdp_daemon.specs.declared.rest_step.RestStep.{RestStep}
 use Rattle.trdp_daemon.specs.declared.rest_step.RestStep.TheVariants.{GoOn, Look, Sleep, Wait}
 use Rattle.trdp_daemon.specs.Told.{TellsMore}
 
--- a turn without a rest: the system is asked for news, unless it goes on without
+-- a turn without a rest: it is asked where news are, unless the turn goes on without
 abbrev pub busy_step : Bool → RestStep
 busy_step true = GoOn
 busy_step false = Look
@@ -23,19 +23,17 @@ step_of true most goes_on = busy_step goes_on
 step_of false zero goes_on = busy_step goes_on
 step_of false (suc n) goes_on = idle_step (suc n)
 
--- whether a step is a rest: the first turn without one goes on after it
+-- whether a step is a rest
 abbrev pub is_rest : RestStep → Bool
 is_rest GoOn = false
 is_rest Look = false
 is_rest (Sleep micros) = true
 is_rest (Wait millis) = true
 
--- how many milliseconds the system is asked for news; none where it isn't asked
-abbrev pub wait_in : RestStep → Option ℕ
-wait_in GoOn = None
-wait_in Look = Some 0
-wait_in (Sleep micros) = Some 0
-wait_in (Wait millis) = Some millis
+-- whether the next turn goes on, after a step between these readings: after a rest of at least 100
+-- microseconds
+abbrev pub goes_on_after : RestStep → (began ended : ℕ) → Bool
+goes_on_after step began ended = is_rest step && nat_le 100 (ended - began)
 
 -- whether there was no rest for 50 milliseconds up to this reading: since the first turn without
 -- one, or the first after the latest sleep for being busy

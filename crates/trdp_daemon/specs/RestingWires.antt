@@ -5,23 +5,43 @@ use Rattle.trdp_base.specs.declared.place.Place.{Place}
 use Rattle.trdp_daemon.specs.declared.fault.WireFault.{WireFault}
 use Rattle.trdp_daemon.specs.declared.port.Port.{Port}
 use Rattle.trdp_daemon.specs.declared.resting_wire.RestingWire.{RestingWire}
-use Rattle.trdp_daemon.specs.News.{WaitsForNews, WaitsIf, has_news, news_after}
+use Rattle.trdp_daemon.specs.News.{WaitsForNews, all_news, has_news, news_after}
 use Rattle.trdp_daemon.specs.declared.rest_step.RestStep.{RestStep}
-use Rattle.trdp_daemon.specs.RestSteps.{PausesSo, is_rest, rest_left, step_of, wait_in}
+use Rattle.trdp_daemon.specs.declared.rest_step.RestStep.TheVariants.{GoOn, Look, Sleep, Wait}
+use Rattle.trdp_daemon.specs.RestSteps.{PausesSo, goes_on_after, rest_left, step_of}
 use Rattle.trdp_daemon.specs.Sockets.{SocketCall, socket_of}
 use Rattle.trdp_daemon.specs.SocketWires.{TakesAtSocket}
 use Rattle.trdp_daemon.specs.Told.{TellsMore}
 
--- whether a take asks the system for news first: something was heard in this turn, the turn
--- doesn't go on without asking, and there are no news of the port
+-- where news are is asked without a rest: with few ports there may be some of each, and no call is
+-- made; with more the system is asked
+abbrev pub AsksAtOnce : (few : Bool) → (calls calls_then : Option (List SocketCall))
+    → (news news_then : List Bool) → Type 0
+AsksAtOnce true calls calls_then news news_then =
+    (calls_then ≡ calls) × (news_then ≡ all_news news)
+AsksAtOnce false calls calls_then news news_then = WaitsForNews 0 calls calls_then news news_then
+
+-- the same in a step of a rest
+abbrev pub AsksInStep : (few : Bool) → RestStep → (calls calls_then : Option (List SocketCall))
+    → (news news_then : List Bool) → Type 0
+AsksInStep few GoOn calls calls_then news news_then = (calls_then ≡ calls) × (news_then ≡ news)
+AsksInStep few Look calls calls_then news news_then =
+    AsksAtOnce few calls calls_then news news_then
+AsksInStep few (Sleep micros) calls calls_then news news_then =
+    WaitsForNews 0 calls calls_then news news_then
+AsksInStep few (Wait millis) calls calls_then news news_then =
+    WaitsForNews millis calls calls_then news news_then
+
+-- whether a take asks where news are first: something was heard in this turn, the turn doesn't go
+-- on without asking, and there are no news of the port
 abbrev pub looks_first : (heard goes_on there : Bool) → Bool
 looks_first heard goes_on there = heard && (not goes_on && not there)
 
--- the system is asked for news, and the turn goes on without asking again; nothing else changes
+-- where news are is asked, and the turn goes on without asking again; nothing else changes
 pub record Looks {S C : Type 0} (calls_of : S → Option (List SocketCall))
     (old new : RestingWire S C) : Type 0 where
-  pub waits : WaitsForNews 0 (calls_of old.wire.sockets) (calls_of new.wire.sockets)
-      old.news new.news
+  pub asks : AsksAtOnce old.has_few_ports (calls_of old.wire.sockets)
+      (calls_of new.wire.sockets) old.news new.news
   pub is : new ≡ record old {
     wire = record old.wire { sockets = new.wire.sockets };
     news = new.news;
@@ -56,7 +76,7 @@ TakesIfNews true calls_of old new port room result =
     TakesAtNews calls_of old new port room result
 TakesIfNews false calls_of old new port room result = (result ≡ Ok None) × (new ≡ old)
 
--- a take asks the system for news first, or doesn't; then it takes what there are news of
+-- a take asks where news are first, or doesn't; then it takes what there are news of
 pub record TakesSo {S C : Type 0} (calls_of : S → Option (List SocketCall))
     (old new : RestingWire S C) (port : Port) (room : List ℕ)
     (result : Result (Option (Place × ℕ)) WireFault) : Type 0 where
@@ -77,15 +97,23 @@ pub record RestsSo {S C : Type 0} (calls_of : S → Option (List SocketCall))
   pub step_is : step ≡ step_of old.heard (rest_left old.rested began most) old.goes_on
   pub read : TellsMore (readings_of old.clock) (readings_of new.clock) (began ∷ ended ∷ [])
   pub pauses : PausesSo step began (sleeps_of old.clock) (sleeps_of new.clock) old.busy new.busy
-  pub waits : WaitsIf (wait_in step) (calls_of old.wire.sockets) (calls_of new.wire.sockets)
-      old.news new.news
-  pub goes_on : new.goes_on ≡ is_rest step
-  pub noted : new.rested ≡ Some ended
-  pub forgotten : new.heard ≡ false
+  pub asks : AsksInStep old.has_few_ports step (calls_of old.wire.sockets)
+      (calls_of new.wire.sockets) old.news new.news
+  pub is : new ≡ record old {
+    wire = record old.wire { sockets = new.wire.sockets };
+    clock = new.clock;
+    news = new.news;
+    heard = false;
+    goes_on = goes_on_after step began ended;
+    busy = new.busy;
+    rested = Some ended;
+  }
 
--- a wire before its first take, with this clock: something may be at each socket
-pub record IsFresh {S C : Type 0} (clock : C) (wire : RestingWire S C) : Type 0 where
+-- a wire before its first take, with this clock, and few ports or more: something may be at each
+-- socket
+pub record IsFresh {S C : Type 0} (clock : C) (few : Bool) (wire : RestingWire S C) : Type 0 where
   pub clock_is : wire.clock ≡ clock
+  pub few_is : wire.has_few_ports ≡ few
   pub news : (socket : ℕ) → has_news wire.news socket ≡ true
   pub heard : wire.heard ≡ false
   pub goes_on : wire.goes_on ≡ true

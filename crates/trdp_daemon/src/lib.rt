@@ -67,6 +67,7 @@ mod ports;
 mod question;
 mod refusal;
 mod rest_step;
+mod resting_system;
 mod resting_wire;
 mod rows;
 mod run_clock;

@@ -3,11 +3,14 @@
 ghost use Rattle.std.specs.Prelude.{◌≡◌, ◌<◌, ◌≤◌, ◌+◌, ◌++◌, drop, length, IfOk, OnOk};
 ghost use Rattle.std.specs.Prelude.{slice_get};
 ghost use Rattle.trdp_daemon.specs.Ports.{control_numbers, control_ports, group_ports};
-ghost use Rattle.trdp_daemon.specs.Ports.{port_unless_0, ports_of};
+ghost use Rattle.trdp_daemon.specs.Ports.{has_few_ports, port_unless_0, ports_of};
 
 use crate::port::Port;
 use std::alloc::{AllocError, Global};
 use trdp_dataset::NodeConfig;
+
+/// The most ports that are few.
+const FEW_PORTS: usize = 6;
 
 /// The ports of a turn, in its order.
 ///
@@ -23,6 +26,15 @@ pub(crate) fn ports_of(alloc: Global, config: &NodeConfig) -> Result<Vec<Port>, 
         push_control(&mut ports, config, slot)?;
     }
     Ok(ports)
+}
+
+/// Whether a configuration names few ports: at most 6, among which the operator's and each slot's
+/// count even where it names none.
+pub(crate) fn has_few_ports(config: &NodeConfig) -> bool
+    ensures { result ≡ has_few_ports config.now }
+{
+    let control_ports = config.slots() + config.spare_control_ports();
+    3 + 2 * config.groups().len() + control_ports <= FEW_PORTS
 }
 
 /// Adds the ports of these groups, two for each.

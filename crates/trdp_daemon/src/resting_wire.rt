@@ -3,7 +3,6 @@
 ghost use Rattle.std.specs.Prelude.{◌≡◌, ◌<◌, ◌≤◌, ◌++◌, length, map, None, Some, IfOk, IfErr};
 ghost use Rattle.std.specs.Prelude.{IfSome, OnErr, false, true, slice_set};
 ghost use Rattle.trdp_daemon.specs.News.{has_news};
-ghost use Rattle.trdp_daemon.specs.RestSteps.{is_breathless};
 ghost use Rattle.trdp_daemon.specs.RestingWires.{RestsSo, TakesSo};
 ghost use Rattle.trdp_daemon.specs.Sockets.{MadeInTurn, binds_of, watches_of};
 ghost use Rattle.trdp_daemon.specs.Sockets.{network_binds_of, network_watches_of, socket_of};
@@ -13,28 +12,22 @@ use crate::bind_fault::BindFault;
 use crate::clock::Clock;
 use crate::fault::WireFault;
 use crate::groups::Groups;
-use crate::news::{has_news, set_news};
+use crate::news::{has_news, note_each, set_news};
 use crate::opening::{bind_and_watch_network, bind_and_watch_ports};
 use crate::port::Port;
+use crate::ports::has_few_ports;
 use crate::refusal::Refusal;
-use crate::rest_step::{RestStep, rest_left};
-use crate::run_clock::RunClock;
+use crate::rest_step::{RestStep, is_breathless, rest_left};
 use crate::sockets::Sockets;
-use crate::system_sockets::{SOCKETS_MAX, SystemSockets};
+use crate::system_sockets::SOCKETS_MAX;
 use crate::udp_wire::UdpWire;
 use crate::wire::Wire;
-use mio::Registry;
 use std::alloc::Global;
-use std::net::Net;
-use std::{io, time};
 use trdp_base::Place;
 use trdp_dataset::NodeConfig;
 
-/// The most microseconds without a rest: a quarter of what the unit's limit lets a process of a
-/// real-time policy run without one.
-const BREATHLESS: u64 = 50_000;
-
-/// The microseconds of a sleep after which that limit starts again.
+/// The microseconds of a sleep after which the system's limit for a process of a real-time policy
+/// starts again.
 const BREATH: u64 = 50;
 
 /// The UDP ports of a node, which wait in a rest alone: until something comes at one of them, by
@@ -46,22 +39,27 @@ const BREATH: u64 = 50;
 /// are news of each port. News end at a take that found nothing. What arrives before that take is
 /// found by it. What arrives after it is an edge, which the next wait reports, whether it had
 /// begun before or not. What the system reports twice is taken once. A wait comes in each rest
-/// that isn't cut short, and in each turn that has none but the first after a rest: once something
-/// was heard in it, at the next port of which there are no news, or else at its end. So a datagram
-/// that comes while another one is handled is taken in the same turn, if its port is still to come.
+/// that isn't cut short, and in each turn that has none, but not in the first after a rest of 100
+/// microseconds or more. It comes once something was heard in the turn, at the next port of which
+/// there are no news, or else at the turn's end. So a datagram that comes while another one is
+/// handled is taken in the same turn, if its port is still to come.
+///
+/// A wire of few UDP ports makes no wait there: it assumes that there are news of each port, and
+/// so asks each. That is as quick, and a flood does not slow it down.
 #[derive(Drop)]
 pub struct RestingWire<S, C> {
     /// The ports.
     pub(crate) wire: UdpWire<S>,
     /// The clock that it reads and sleeps by.
     pub(crate) clock: C,
+    /// Whether it has few ports, and each is asked where others ask the system without a rest.
+    pub(crate) has_few_ports: bool,
     /// For the number of each socket, whether something may be there.
     pub(crate) news: [bool; SOCKETS_MAX],
     /// Whether something came or failed at a take since the latest rest.
     pub(crate) heard: bool,
-    /// Whether this turn goes on without asking the system for news, if it has no rest. The first
-    /// after a rest does, so that something that comes alone costs no more calls, and one that has
-    /// asked.
+    /// Whether this turn goes on without asking where news are, if it has no rest: the first after
+    /// a rest that wasn't short does, and one that has asked.
     pub(crate) goes_on: bool,
     /// The reading of the clock at the end of the first turn without a rest; None where each since
     /// the latest rest had one.
@@ -70,64 +68,16 @@ pub struct RestingWire<S, C> {
     pub(crate) rested: Option<u64>,
 }
 
-impl<'a, R: Net + time::Clock> RestingWire<SystemSockets<'a, R>, RunClock<'a, R>> {
-    /// Binds the system's sockets at the ports that a configuration names, as [`UdpWire::bind`]
-    /// does, and then takes what their waits need, so that no wait takes memory.
-    ///
-    /// # Errors
-    /// As [`UdpWire::bind`]; `OutOfMemory` too where there is none for the waits, and `Bind` where
-    /// the system refuses them.
-    pub fn bind(
-        rt: &'a R,
-        alloc: Global,
-        config: &NodeConfig,
-    ) -> Result<RestingWire<SystemSockets<'a, R>, RunClock<'a, R>>, BindFault>
-        ensures failures { IfOk result (λ wire. wire.wire.failures ≡ 0) }
-        ensures refusal { IfOk result (λ wire. wire.wire.refusal ≡ None) }
-    {
-        match RestingWire::open(alloc, SystemSockets::new(rt), RunClock::new(rt), config) {
-            Ok(wire) => Ok(wire),
-            Err((fault, _)) => Err(fault),
-        }
-    }
-
-    /// Binds the system's sockets at the ports of process data and message data alone, as
-    /// [`UdpWire::bind_network`] does, and then takes what their waits need.
-    ///
-    /// # Errors
-    /// As [`RestingWire::bind`].
-    pub fn bind_network(
-        rt: &'a R,
-        alloc: Global,
-        config: &NodeConfig,
-    ) -> Result<RestingWire<SystemSockets<'a, R>, RunClock<'a, R>>, BindFault>
-        ensures failures { IfOk result (λ wire. wire.wire.failures ≡ 0) }
-        ensures refusal { IfOk result (λ wire. wire.wire.refusal ≡ None) }
-    {
-        match RestingWire::open_network(alloc, SystemSockets::new(rt), RunClock::new(rt), config) {
-            Ok(wire) => Ok(wire),
-            Err((fault, _)) => Err(fault),
-        }
-    }
-
-    /// Where the system is asked to report something else too, by the number of the socket of its
-    /// port (`socket_of`); None where it never waits.
-    ///
-    /// # Errors
-    /// What the system says to it.
-    pub fn registry(&self) -> io::Result<Option<Registry>> {
-        self.wire.sockets.registry()
-    }
-}
-
 impl<S: Sockets, C: Clock + Drop> RestingWire<S, C> {
     ghost use Rattle.trdp_daemon.specs.News.{has_news};
     ghost use Rattle.trdp_daemon.specs.RestSteps.{Breathes, PausesSo};
+    ghost use Rattle.trdp_daemon.specs.Ports.{has_few_ports};
     ghost use Rattle.std.specs.Prelude.{◌≡◌, ◌<◌, ◌≤◌, ◌++◌, length};
-    ghost use Rattle.std.specs.Prelude.{IfOk, IfErr, IfSome, OnErr, None, Some};
+    ghost use Rattle.std.specs.Prelude.{IfOk, IfErr, IfSome, OnErr, None, Some, false};
     ghost use Rattle.trdp_daemon.specs.Sockets.{MadeInTurn, binds_of, watches_of, socket_of};
     ghost use Rattle.trdp_daemon.specs.Sockets.{network_binds_of, network_watches_of};
-    ghost use Rattle.trdp_daemon.specs.RestingWires.{IsFresh, LooksIf, TakesIfNews, looks_first};
+    ghost use Rattle.trdp_daemon.specs.RestingWires.{AsksAtOnce, AsksInStep, IsFresh, LooksIf};
+    ghost use Rattle.trdp_daemon.specs.RestingWires.{TakesIfNews, looks_first};
 
     /// Binds sockets at the ports that a configuration names, as [`UdpWire::open`] does, and then
     /// has waits end when a datagram comes at one of them.
@@ -147,10 +97,13 @@ impl<S: Sockets, C: Clock + Drop> RestingWire<S, C> {
             (binds_of config.now ++ watches_of config.now) (Some back.0)
             (S.calls sockets) (S.calls back.1)) }
         ensures groups { IfOk result (λ wire. wire.wire.groups ≡ config.now.groups) }
-        ensures fresh { IfOk result (λ wire. IsFresh clock wire) }
+        ensures fresh { IfOk result (λ wire. IsFresh clock (has_few_ports config.now) wire) }
     {
         match bind_and_watch_ports(&mut sockets, alloc, config) {
-            Ok(()) => Ok(RestingWire::over(sockets, Groups::of(config), clock)),
+            Ok(()) => {
+                let few = has_few_ports(config);
+                Ok(RestingWire::over(sockets, Groups::of(config), clock, few))
+            }
             Err(fault) => Err((fault, sockets)),
         }
     }
@@ -173,24 +126,25 @@ impl<S: Sockets, C: Clock + Drop> RestingWire<S, C> {
             (network_binds_of config.now ++ network_watches_of config.now) (Some back.0)
             (S.calls sockets) (S.calls back.1)) }
         ensures groups { IfOk result (λ wire. wire.wire.groups ≡ config.now.groups) }
-        ensures fresh { IfOk result (λ wire. IsFresh clock wire) }
+        ensures fresh { IfOk result (λ wire. IsFresh clock false wire) }
     {
         match bind_and_watch_network(&mut sockets, alloc, config) {
-            Ok(()) => Ok(RestingWire::over(sockets, Groups::of(config), clock)),
+            Ok(()) => Ok(RestingWire::over(sockets, Groups::of(config), clock, false)),
             Err(fault) => Err((fault, sockets)),
         }
     }
 
     /// A wire over sockets that are bound and watched, before its first take: something may be at
-    /// each.
-    fn over(sockets: S, groups: Groups, clock: C) -> RestingWire<S, C>
+    /// each. `few` is whether it has few ports.
+    fn over(sockets: S, groups: Groups, clock: C, few: bool) -> RestingWire<S, C>
         ensures sockets { result.wire.sockets ≡ sockets }
         ensures groups { result.wire.groups ≡ groups }
-        ensures fresh { IsFresh clock result }
+        ensures fresh { IsFresh clock few result }
     {
         RestingWire {
             wire: UdpWire::over(sockets, groups),
             clock,
+            has_few_ports: few,
             news: [true; SOCKETS_MAX],
             heard: false,
             goes_on: true,
@@ -213,16 +167,50 @@ impl<S: Sockets, C: Clock + Drop> RestingWire<S, C> {
         &self.clock
     }
 
-    /// Asks the system for news at a take at a port of which there are none, where something was
-    /// heard in this turn, and the turn doesn't go on without asking.
+    /// Asks where news are at a take at a port of which there are none, where something was heard
+    /// in this turn, and the turn doesn't go on without asking.
     fn look_first(&mut self, port: Port)
         ensures looks { LooksIf (looks_first self.old.heard self.old.goes_on
             (has_news self.old.news (socket_of self.old.wire.groups port))) S.calls
             self.old self.new }
     {
         if self.heard && !self.goes_on && !self.has_news(port) {
-            self.wire.sockets.wait(0, &mut self.news);
+            self.ask_at_once();
             self.goes_on = true;
+        }
+    }
+
+    /// Asks where news are without a rest: with few ports there may be some of each, and with more
+    /// the system is asked.
+    fn ask_at_once(&mut self)
+        ensures asks { AsksAtOnce self.old.has_few_ports (S.calls self.old.wire.sockets)
+            (S.calls self.new.wire.sockets) self.old.news self.new.news }
+        ensures kept { self.new ≡ record self.old {
+          wire = record self.old.wire { sockets = self.new.wire.sockets };
+          news = self.new.news;
+        } }
+    {
+        if self.has_few_ports {
+            note_each(&mut self.news);
+        } else {
+            self.wire.sockets.wait(0, &mut self.news);
+        }
+    }
+
+    /// Asks where news are in a step of a rest.
+    fn ask_in(&mut self, step: RestStep)
+        ensures asks { AsksInStep self.old.has_few_ports step (S.calls self.old.wire.sockets)
+            (S.calls self.new.wire.sockets) self.old.news self.new.news }
+        ensures kept { self.new ≡ record self.old {
+          wire = record self.old.wire { sockets = self.new.wire.sockets };
+          news = self.new.news;
+        } }
+    {
+        match step {
+            RestStep::GoOn => {}
+            RestStep::Look => self.ask_at_once(),
+            RestStep::Sleep(_) => self.wire.sockets.wait(0, &mut self.news),
+            RestStep::Wait(millis) => self.wire.sockets.wait(millis, &mut self.news),
         }
     }
 
@@ -340,12 +328,11 @@ impl<S: Sockets, C: Clock + Drop> Wire for RestingWire<S, C> {
         let left = rest_left(self.rested, began, most);
         let step = RestStep::of(self.heard, left, self.goes_on);
         self.heard = false;
-        self.goes_on = step.is_rest();
         self.pause(step, began);
-        if let Some(millis) = step.wait() {
-            self.wire.sockets.wait(millis, &mut self.news);
-        }
-        self.rested = Some(self.clock.now());
+        self.ask_in(step);
+        let ended = self.clock.now();
+        self.goes_on = step.goes_on(began, ended);
+        self.rested = Some(ended);
     }
 
     fn has_news(&self, port: Port) -> bool
@@ -374,16 +361,5 @@ impl<S: Sockets, C: Clock + Drop> Wire for RestingWire<S, C> {
         ensures { result ≡ self.now.wire.refusal }
     {
         self.wire.refusal()
-    }
-}
-
-/// Whether there was no rest for 50 milliseconds up to this reading of the clock.
-#[tactic(auto, unfolding(crate::specs::RestSteps::is_breathless))]
-fn is_breathless(busy: Option<u64>, reading: u64) -> bool
-    ensures { result ≡ is_breathless busy reading }
-{
-    match busy {
-        Some(since) => BREATHLESS <= reading.saturating_sub(since),
-        None => false,
     }
 }

@@ -17,6 +17,8 @@ mod counts;
 #[cfg(test)]
 mod daemon;
 #[cfg(test)]
+mod few_ports;
+#[cfg(test)]
 mod items;
 #[cfg(test)]
 mod lines;

@@ -5,6 +5,7 @@ use Rattle.trdp_daemon.proofs.resting_wire.RestingWire.over.Goals as goal
 pub returns-clause-fresh : goal.returns-clause-fresh
 returns-clause-fresh g c = record {
   clock_is = refl;
+  few_is = refl;
   news = λ socket. each_there 98 socket;
   heard = refl;
   goes_on = refl;
