@@ -1,5 +1,5 @@
 -- At which sockets something may be: where the system has reported news since a take found
--- nothing.
+-- nothing, and at each where a wire of few ports says so without asking the system.
 use Rattle.std.specs.Prelude.{◌≡◌, ℕ, List, [], ◌∷◌, Bool, true, false, if◌then◌else◌}
 use Rattle.std.specs.Prelude.{slice_index_or, slice_set, length, replicate, Option}
 use Rattle.trdp_daemon.specs.Sockets.{SocketCall, Waits}

@@ -8,7 +8,7 @@ ghost use Rattle.trdp_daemon.specs.Told.{TellsMore, arrival_in};
 
 use crate::arrivals::fill;
 use crate::bind_fault::BindFault;
-use crate::news::note_all;
+use crate::news::note_told;
 use crate::socket_fault::{NO_WAY, SocketFault};
 use crate::sockets::Sockets;
 use std::alloc::{AllocError, Global};
@@ -197,7 +197,7 @@ impl Sockets for MemorySockets {
     fn wait(&mut self, millis: u64, news: &mut [bool]) {
         match self.sockets_of_arrivals() {
             Ok(told) => {
-                note_all(news, &told);
+                note_told(news, &told);
                 self.note(Ok(SocketRow::Waited(millis, told)));
             }
             Err(_) => self.tells = false,

@@ -23,14 +23,14 @@ pub(crate) fn set_news(news: &mut [bool], socket: usize, is_there: bool)
 }
 
 /// Notes that something may be at each socket.
-pub(crate) fn note_each(news: &mut [bool])
+pub(crate) fn note_all(news: &mut [bool])
     ensures { news.new ≡ all_news news.old }
 {
     news.fill(true);
 }
 
 /// Notes that there are news of these sockets.
-pub(crate) fn note_all(news: &mut [bool], sockets: &[usize])
+pub(crate) fn note_told(news: &mut [bool], sockets: &[usize])
     ensures { news.new ≡ with_news sockets.now news.old }
 {
     for socket in sockets.iter() {

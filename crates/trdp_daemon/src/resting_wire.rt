@@ -12,7 +12,7 @@ use crate::bind_fault::BindFault;
 use crate::clock::Clock;
 use crate::fault::WireFault;
 use crate::groups::Groups;
-use crate::news::{has_news, note_each, set_news};
+use crate::news::{has_news, note_all, set_news};
 use crate::opening::{bind_and_watch_network, bind_and_watch_ports};
 use crate::port::Port;
 use crate::ports::has_few_ports;
@@ -191,7 +191,7 @@ impl<S: Sockets, C: Clock + Drop> RestingWire<S, C> {
         } }
     {
         if self.has_few_ports {
-            note_each(&mut self.news);
+            note_all(&mut self.news);
         } else {
             self.wire.sockets.wait(0, &mut self.news);
         }

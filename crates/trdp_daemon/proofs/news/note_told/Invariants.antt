@@ -1,6 +1,6 @@
 use Rattle.std.proofs.Common.{◌≡◌, drop}
 use Rattle.trdp_daemon.specs.News.{with_news}
-use Rattle.trdp_daemon.proofs.news.note_all.Given as goal
+use Rattle.trdp_daemon.proofs.news.note_told.Given as goal
 
 -- with those to come all are noted
 abbrev pub invariant-loop-socket : goal.invariant-loop-socket
