@@ -54,8 +54,8 @@ line_ports config =
 unfoldable pub ports_of : ConfigModel → List Port
 ports_of config = network_ports config ++ line_ports config
 
--- whether a configuration names few ports: at most 6, among which the operator's and each slot's
--- count even where it names none
+-- whether a configuration names few ports: at most 6, among which the operator's, each slot's and
+-- each spare one count even where it is none
 abbrev pub has_few_ports : ConfigModel → Bool
 has_few_ports config =
     nat_le (3 + 2 * length config.groups + length (control_numbers config)) 6

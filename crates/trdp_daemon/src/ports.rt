@@ -28,8 +28,8 @@ pub(crate) fn ports_of(alloc: Global, config: &NodeConfig) -> Result<Vec<Port>, 
     Ok(ports)
 }
 
-/// Whether a configuration names few ports: at most 6, among which the operator's and each slot's
-/// count even where it names none.
+/// Whether a configuration names few ports: at most 6, among which the operator's, each slot's and
+/// each spare one count even where it is none.
 pub(crate) fn has_few_ports(config: &NodeConfig) -> bool
     ensures { result ≡ has_few_ports config.now }
 {
