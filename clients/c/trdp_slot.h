@@ -336,7 +336,7 @@ enum trdp_slot_kind {
     TRDP_SLOT_ALIVE,       /* a silent subscription accepted a telegram again */
     TRDP_SLOT_NOTIFIED,    /* a listener heard a notification */
     TRDP_SLOT_ASKED,       /* a listener heard a request; `replier` owes the answer */
-    TRDP_SLOT_OVERRUN,     /* a listener heard a request that no one will answer */
+    TRDP_SLOT_OVERRUN,     /* a listener heard a request that this slot will not answer */
     TRDP_SLOT_REPLIED,     /* a caller has an answer */
     TRDP_SLOT_CONFIRMED,   /* a replier's query is confirmed, and it is over */
     TRDP_SLOT_CLOSED       /* a caller or a replier is over */
@@ -388,7 +388,7 @@ struct trdp_slot_usage {
     uint16_t slot; /* its number */
     struct trdp_slot_kinds objects;
     struct trdp_slot_kinds quotas;
-    bool has_spoken; /* whether a line has come from it, and no lease has run out since */
+    bool has_spoken; /* whether a line has come from it since its latest connection ended, or its lease ran out */
     uint64_t silent; /* how many microseconds ago its latest line came */
 };
 

@@ -611,7 +611,7 @@ class Asked(NamedTuple):
 
 
 class Overrun(NamedTuple):
-    """A listener heard a request, and the slot can't have one more replier. No one will answer it."""
+    """A listener heard a request, and the slot can't have one more replier. This slot won't answer it."""
 
     listener: Handle
 
@@ -2219,7 +2219,7 @@ class Kinds(NamedTuple):
 
 class Usage(NamedTuple):
     """What a slot has and may have at most of each kind, and how many microseconds ago its latest line came; None
-    where none has come."""
+    where none has come, or none since its connection ended or its lease ran out."""
 
     slot: int
     objects: Kinds
