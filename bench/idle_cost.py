@@ -1,15 +1,15 @@
 #!/usr/bin/env python3
 """What `trdpd daemon` costs that has nothing to do but to send on time, beside a loop without a node.
 
-    bench/idle_cost.py [SECONDS] [BEFORE] [AFTER] [ROUNDS]        default: 10 crates/trdpd/out/trdpd, both times, 5
+    bench/idle_cost.py [BEFORE] [AFTER] [ROUNDS]        default: crates/trdpd/out/trdpd, both times, 30 rounds
 
 bench/bare_rest.rs, which rustc builds, is that loop: it sleeps until the next telegram is due, at the moments at which
 the program after the change sent, at most a millisecond at a time, or in one piece; after each sleep it answers what
 came. It, the program before a change and the one after it send the telegrams of the same publishers, whose phases are
-spread over the cycle, to a socket on this machine, in turns. For each the median over the rounds of
+spread over the cycle, to a socket on this machine, in turns, for a second in each round. Of the rounds of each a third
+counts, those from which the host took the least processor time away. Printed are of these together
 
-    processor     the share of a processor that it takes meanwhile (user and system), by the clock of its processor time
-    perf          the same by `perf stat`, where that works, over a second beside
+    processor     the share of a processor that it takes meanwhile (user and system)
     late          how much later than the earliest of its publisher a telegram came, by the system's stamp, median and
                   99 %
     answer        how long a call waits for its answer, after a pause of 5 to 50 ms, median and 99 %
@@ -20,20 +20,21 @@ the loop, and telegrams and answers at most 50 microseconds later. All is at 127
 from __future__ import annotations
 
 import os
-import shutil
 import statistics
 import subprocess
 import sys
 import tempfile
 import time
 from collections.abc import Callable
+from functools import partial
 from typing import NamedTuple
 
 from control_lines import free_ports
-from rest import HOST, TOP, Node, Started, answer_times, arrivals, lateness, share, short_while, stamped
+from rest import (HOST, TOP, Node, Started, answer_times, arrivals, lateness, quietest, share, short_while, stamped,
+                  watched)
 
-CALLS = 100                                       # of a round
-PERF_SECONDS = 1.0
+SECONDS = 1.0                                     # of telegrams in a round
+CALLS = 20                                        # of a round
 PAYLOAD = 8                                       # bytes
 TELEGRAM = 40 + PAYLOAD                           # bytes
 NUMBER = slice(8, 12)                             # of a telegram: its comId, which is the publisher's number
@@ -56,11 +57,20 @@ ROWS = [Row(100, 0.02), Row(50, 0.1), Row(1, 0.01)]
 Start = Callable[[Row, int, list[float]], Started]
 
 
-class Cost(NamedTuple):
-    """What was measured in a round: shares of a processor, and microseconds."""
+class Round(NamedTuple):
+    """What was measured in a round: the share of a processor, how late each telegram came and how long each call
+    waited, in microseconds, and the phases of the publishers, in seconds."""
 
     used: float
-    perf: float
+    late: list[float]
+    answers: list[float]
+    phases: list[float]
+
+
+class Cost(NamedTuple):
+    """What rounds found together: the share of a processor, and microseconds."""
+
+    used: float
     late: float
     late_most: float
     answer: float
@@ -68,13 +78,13 @@ class Cost(NamedTuple):
 
 
 def started_node(program: str, row: Row, sink: int) -> Started:
-    """A daemon with these publishers, the first put of each a part of the cycle after that of the one before."""
+    """A daemon with these publishers, each made a part of the cycle after the one before, since there its cycles
+    begin."""
     node = Node(program, ["daemon"], 1, f"publishers = {row.publishers}\n")
-    for number in range(row.publishers):
-        node.call(f"publish {number} 0 {row.cycle * 1e6:.0f} 0 0 0 {HOST}:{sink}")
     begin = time.monotonic()
     for number in range(row.publishers):
         time.sleep(max(0.0, begin + row.cycle * number / row.publishers - time.monotonic()))
+        node.call(f"publish {number} 0 {row.cycle * 1e6:.0f} 0 0 0 {HOST}:{sink}")
         if node.call(f"put {number + 1} {bytes(PAYLOAD).hex()}") != "0 done":
             sys.exit("idle_cost.py: the daemon refuses a put")
     return node
@@ -90,28 +100,16 @@ def started_bare(program: str, row: Row, sink: int, phases: list[float], pieces:
         return Started([program, *map(str, numbers)], ports[2:], file)
 
 
-def perf_share(process: int) -> float:
-    """The share of a processor that a process takes, by perf; not a number where perf doesn't work."""
-    if not shutil.which("perf"):
-        return float("nan")
-    words = ["perf", "stat", "-x", ",", "-e", "task-clock", "-p", str(process), "--", "sleep", str(PERF_SECONDS)]
-    said = subprocess.run(words, capture_output=True, text=True).stderr
-    counts = [line.split(",")[0] for line in said.splitlines() if "task-clock" in line]
-    return float(counts[0]) / 1e3 / PERF_SECONDS if counts and counts[0][:1].isdigit() else float("nan")
-
-
-def cost(start: Start, row: Row, seconds: float, phases: list[float]) -> tuple[Cost, list[float]]:
-    """What a program costs that sends the telegrams of a row, where one before had these phases; and the phases that it
-    has."""
+def measured_round(start: Start, row: Row, phases: list[float]) -> Round:
+    """Measures a program that sends the telegrams of a row, where one before had these phases."""
     with stamped() as sink:
         node = start(row, sink.getsockname()[1], phases)
         try:
             for _ in arrivals(sink, 2 * row.cycle):
                 pass
             begin, used = time.monotonic(), node.used()
-            came = list(arrivals(sink, seconds))
+            came = list(arrivals(sink, SECONDS))
             used = (node.used() - used) / (time.monotonic() - begin)
-            perf = perf_share(node.process.pid)
             answers = answer_times(node, short_while, CALLS)
         finally:
             node.end()
@@ -121,45 +119,52 @@ def cost(start: Start, row: Row, seconds: float, phases: list[float]) -> tuple[C
     if len(of) != row.publishers:
         sys.exit(f"idle_cost.py: telegrams of {len(of)} publishers came, not of {row.publishers}")
     late = [it for moments in of.values() for it in lateness(moments, row.cycle)]
-    found = Cost(used, perf, share(late, 0.5), share(late, 0.99), share(answers, 0.5), share(answers, 0.99))
-    return found, [(share([(it - came[0][0]) % row.cycle for it in moments], 0.5)) for moments in of.values()]
+    own = [share([(it - came[0][0]) % row.cycle for it in moments], 0.5) for moments in of.values()]
+    return Round(used, late, answers, own)
+
+
+def cost(rounds: list[Round]) -> Cost:
+    """What rounds found together."""
+    late = [it for one in rounds for it in one.late]
+    answers = [it for one in rounds for it in one.answers]
+    used = statistics.mean(it.used for it in rounds)
+    return Cost(used, share(late, 0.5), share(late, 0.99), share(answers, 0.5), share(answers, 0.99))
 
 
 def tell(name: str, found: Cost) -> None:
     """Prints a line."""
-    print(f"  {name:24}{100 * found.used:10.2f}{100 * found.perf:8.2f}{found.late:14.0f}{found.late_most:8.0f}"
+    print(f"  {name:24}{100 * found.used:10.2f}{found.late:14.0f}{found.late_most:8.0f}"
           f"{found.answer:16.0f}{found.answer_most:8.0f}")
 
 
 def tell_goals(after: Cost, bare: Cost, beside: str) -> None:
     """Prints how the program after the change compares with the loop, beside what it is to reach."""
-    later = [one - other for one, other in zip(after[2:], bare[2:])]
+    later = [one - other for one, other in zip(after[1:], bare[1:])]
     is_met = after.used <= TIMES * bare.used and max(later) <= LATER
     print(f"  after, beside {beside}: {after.used / bare.used:.2f} times (at most {TIMES}), later by "
           f"{', '.join(f'{it:.0f}' for it in later)} (at most {LATER:.0f} each): {'met' if is_met else 'NOT MET'}")
 
 
-def measure(starts: dict[str, Start], row: Row, seconds: float, rounds: int) -> None:
+def measure(starts: dict[str, Start], row: Row, rounds: int) -> None:
     """Measures a row, the programs in turns, and prints it."""
-    found: dict[str, list[Cost]] = {name: [] for name in starts}
+    found: dict[str, list[tuple[int, Round]]] = {name: [] for name in starts}
     phases: list[float] = []
     for _ in range(rounds):
         for name, start in starts.items():
-            it, own = cost(start, row, seconds, phases)
-            found[name].append(it)
-            # The loop sleeps until the moments at which the program after the change sent.
-            phases = own if name == "after" else phases
-    medians = {name: Cost(*(statistics.median(it) for it in zip(*costs))) for name, costs in found.items()}
+            found[name].append(watched(partial(measured_round, start, row, phases)))
+            if name == "after":
+                # The loop sleeps until the moments at which this program sent.
+                phases = found[name][-1][1].phases
+    costs = {name: cost(quietest(it)) for name, it in found.items()}
     print(f"{row.publishers} publishers of {row.cycle * 1e3:.0f} ms")
-    for name, it in medians.items():
+    for name, it in costs.items():
         tell(name, it)
     for name in list(starts)[2:]:
-        tell_goals(medians["after"], medians[name], name)
+        tell_goals(costs["after"], costs[name], name)
     sys.stdout.flush()
 
 
-def main(seconds: str = "10", before: str = f"{TOP}/crates/trdpd/out/trdpd", after: str = "",
-         rounds: str = "5") -> None:
+def main(before: str = f"{TOP}/crates/trdpd/out/trdpd", after: str = "", rounds: str = "30") -> None:
     after = after or before
     with tempfile.TemporaryDirectory() as folder:
         bare = os.path.join(folder, "bare_rest")
@@ -170,10 +175,10 @@ def main(seconds: str = "10", before: str = f"{TOP}/crates/trdpd/out/trdpd", aft
             "bare, in pieces": lambda row, sink, phases: started_bare(bare, row, sink, phases, True),
             "bare, in one piece": lambda row, sink, phases: started_bare(bare, row, sink, phases, False),
         }
-        print(f"{'':26}{'processor':>10}{'perf':>8}{'late: median':>14}{'99 %':>8}{'answer: median':>16}{'99 %':>8}   "
+        print(f"{'':26}{'processor':>10}{'late: median':>14}{'99 %':>8}{'answer: median':>16}{'99 %':>8}   "
               "(%, microseconds)")
         for row in ROWS:
-            measure(starts, row, float(seconds), int(rounds))
+            measure(starts, row, int(rounds))
 
 
 if __name__ == "__main__":

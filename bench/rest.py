@@ -7,11 +7,12 @@ For each of the two: the share of a processor that a node takes at which nothing
 of 100 ms; how late its telegrams leave, by the system's stamp at the socket that they come to, from the earliest one
 on; and how long a call waits for its answer, after a pause of 5 to 50 ms. Then how long it waits while the control
 port of the slot beside it is sent to without end, and while the ports of process data and of message data are. All is
-at 127.0.0.1.
+at 127.0.0.1. Programs start with the timer slack that examples/systemd/trdpd.service gives the daemon.
 """
 from __future__ import annotations
 
 import contextlib
+import ctypes
 import os
 import random
 import signal
@@ -23,7 +24,7 @@ import tempfile
 import time
 import zlib
 from collections.abc import Callable, Iterator, Sequence
-from typing import IO
+from typing import IO, TypeVar
 
 from control_lines import free_ports, notification
 
@@ -34,6 +35,35 @@ CALLS = 300
 SO_TIMESTAMPNS = 35                               # Linux: the moment at which a datagram came, in nanoseconds
 CLOCK_OF = 2                                      # Linux: of a process's clocks, that of its processor time
 LOOKS = 0.005                                     # seconds between two looks at what came, so that none wakes a process
+SET_TIMERSLACK = 29                               # Linux: says by prctl how late a sleep may end
+SLACK = 1_000                                     # nanoseconds: TimerSlackNSec= of the unit
+STOLEN = 8                                        # Linux: the place in a line of /proc/stat of what the host took away
+LIBC = ctypes.CDLL(None)
+Found = TypeVar("Found")
+
+
+def set_slack() -> None:
+    """Gives this process the timer slack that the unit gives."""
+    LIBC.prctl(SET_TIMERSLACK, SLACK, 0, 0, 0)
+
+
+def stolen() -> int:
+    """How much processor time the host has taken away from this machine, in ticks of 10 ms."""
+    with open("/proc/stat", encoding="ascii") as file:
+        return int(file.readline().split()[STOLEN])
+
+
+def watched(measured: Callable[[], Found]) -> tuple[int, Found]:
+    """What the host took away during a round, in ticks, and what the round found."""
+    before = stolen()
+    found = measured()
+    return stolen() - before, found
+
+
+def quietest(rounds: Sequence[tuple[int, Found]]) -> list[Found]:
+    """What those rounds found, a third of them, that the host disturbed least."""
+    ordered = sorted(rounds, key=lambda it: it[0])
+    return [found for _, found in ordered[:(len(ordered) + 2) // 3]]
 
 
 class Started:
@@ -41,7 +71,8 @@ class Started:
 
     def __init__(self, words: Sequence[str], controls: list[int], said: IO[str] | None = None) -> None:
         self.controls = controls
-        self.process = subprocess.Popen(words, stdin=said, stdout=subprocess.DEVNULL, stderr=subprocess.DEVNULL)
+        self.process = subprocess.Popen(words, stdin=said, stdout=subprocess.DEVNULL, stderr=subprocess.DEVNULL,
+                                        preexec_fn=set_slack)
         try:
             self.clients = [self.client(it) for it in controls]
         except BaseException:
