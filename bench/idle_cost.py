@@ -30,8 +30,8 @@ from functools import partial
 from typing import NamedTuple
 
 from control_lines import free_ports
-from rest import (HOST, TOP, Node, Started, answer_times, arrivals, lateness, quietest, share, short_while, stamped,
-                  watched)
+from rest import (HOST, TOP, Node, Started, answer_times, arrivals, flooding, lateness, quietest, share, short_while,
+                  stamped, watched)
 
 SECONDS = 1.0                                     # of telegrams in a round
 CALLS = 20                                        # of a round
@@ -78,13 +78,16 @@ class Cost(NamedTuple):
 
 
 def started_node(program: str, row: Row, sink: int) -> Started:
-    """A daemon with these publishers, each made a part of the cycle after the one before, since there its cycles
-    begin."""
+    """A daemon with these publishers, each made a part of the cycle after the one before, since there its cycles begin.
+    Meanwhile a flood keeps the daemon awake, so that none is made late; one that is late waits for the next cycle."""
     node = Node(program, ["daemon"], 1, f"publishers = {row.publishers}\n")
-    begin = time.monotonic()
+    with flooding(node.pd, b"wake"):
+        answer_times(node, lambda: 0.001, 5)
+        begin = time.monotonic()
+        for number in range(row.publishers):
+            time.sleep((begin + row.cycle * number / row.publishers - time.monotonic()) % row.cycle)
+            node.call(f"publish {number} 0 {row.cycle * 1e6:.0f} 0 0 0 {HOST}:{sink}")
     for number in range(row.publishers):
-        time.sleep(max(0.0, begin + row.cycle * number / row.publishers - time.monotonic()))
-        node.call(f"publish {number} 0 {row.cycle * 1e6:.0f} 0 0 0 {HOST}:{sink}")
         if node.call(f"put {number + 1} {bytes(PAYLOAD).hex()}") != "0 done":
             sys.exit("idle_cost.py: the daemon refuses a put")
     return node

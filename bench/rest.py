@@ -216,18 +216,27 @@ def quiet_row(program: str, name: str, kind: Sequence[str], seconds: float) -> N
           f"{share(times, 0.5):16.0f}{share(times, 0.99):8.0f}")
 
 
+@contextlib.contextmanager
+def flooding(port: int, datagram: bytes, processes: int = 1) -> Iterator[None]:
+    """Has that many processes send a datagram to a port without end meanwhile."""
+    children = [flood(port, datagram) for _ in range(processes)]
+    try:
+        yield
+    finally:
+        for child in children:
+            os.kill(child, signal.SIGKILL)
+            os.waitpid(child, 0)
+
+
 def flooded_times(program: str, kind: Sequence[str], flooded: str, slots: int = 2, processes: int = 1) -> list[float]:
     """How long calls wait at a node with that many slots, one port of which that many processes send to without end, in
     microseconds."""
     port_of, datagram = FLOODS[flooded]
     node = Node(program, kind, slots)
-    children = [flood(port_of(node), datagram) for _ in range(processes)]
     try:
-        return answer_times(node, lambda: 0.001)
+        with flooding(port_of(node), datagram, processes):
+            return answer_times(node, lambda: 0.001)
     finally:
-        for child in children:
-            os.kill(child, signal.SIGKILL)
-            os.waitpid(child, 0)
         node.end()
 
 
