@@ -6,8 +6,9 @@
 bench/bare_rest.rs, which rustc builds, is that loop: it sleeps until the next telegram is due, at the moments at which
 the program after the change sent, at most a millisecond at a time, or in one piece; after each sleep it answers what
 came. It, the program before a change and the one after it send the telegrams of the same publishers, whose phases are
-spread over the cycle, to a socket on this machine, in turns, for a second in each round. Of the rounds of each a third
-counts, those from which the host took the least processor time away. Printed are of these together
+spread over the cycle, to a socket on this machine, in turns, for a second in each round. A round begins once no gap
+between two phases is more than three times the mean. Of the rounds of each a third counts, those from which the host
+took the least processor time away. Printed are of these together
 
     processor     the share of a processor that it takes meanwhile (user and system)
     late          how much later than the earliest of its publisher a telegram came, by the system's stamp, median and
@@ -20,12 +21,13 @@ the loop, and telegrams and answers at most 50 microseconds later. All is at 127
 from __future__ import annotations
 
 import os
+import socket
 import statistics
 import subprocess
 import sys
 import tempfile
 import time
-from collections.abc import Callable
+from collections.abc import Callable, Iterable
 from functools import partial
 from typing import NamedTuple
 
@@ -34,11 +36,12 @@ from rest import (HOST, TOP, Node, Started, answer_times, arrivals, flooding, la
                   stamped, watched)
 
 SECONDS = 1.0                                     # of telegrams in a round
-CALLS = 20                                        # of a round
+CALLS = 60                                        # of a round
 PAYLOAD = 8                                       # bytes
 TELEGRAM = 40 + PAYLOAD                           # bytes
 NUMBER = slice(8, 12)                             # of a telegram: its comId, which is the publisher's number
 ANSWER = len("0 refused WrongKind\n")
+SPREAD = 3.0                                      # how many times the mean a gap between two phases may be
 TIMES, LATER = 1.3, 50.0                          # the goals: the ratio of processor times, and microseconds later
 
 
@@ -79,9 +82,10 @@ class Cost(NamedTuple):
 
 def started_node(program: str, row: Row, sink: int) -> Started:
     """A daemon with these publishers, each made a part of the cycle after the one before, since there its cycles begin.
-    Meanwhile a flood keeps the daemon awake, so that none is made late; one that is late waits for the next cycle."""
+    Meanwhile two floods keep the daemon awake, so that none is made late: beside one it would sleep before a telegram
+    is due. One that is late waits for the next cycle."""
     node = Node(program, ["daemon"], 1, f"publishers = {row.publishers}\n")
-    with flooding(node.pd, b"wake"):
+    with flooding(node.pd, b"wake", 2):
         answer_times(node, lambda: 0.001, 5)
         begin = time.monotonic()
         for number in range(row.publishers):
@@ -103,13 +107,31 @@ def started_bare(program: str, row: Row, sink: int, phases: list[float], pieces:
         return Started([program, *map(str, numbers)], ports[2:], file)
 
 
+def is_spread(row: Row, came: Iterable[tuple[float, bytes]]) -> bool:
+    """Whether these telegrams are of all publishers, and spread over the cycle: no gap between two is more than three
+    times the mean."""
+    phases = sorted({telegram[NUMBER]: moment % row.cycle for moment, telegram in came}.values())
+    gaps = [(after - phase) % row.cycle for phase, after in zip(phases, phases[1:] + phases[:1])]
+    return len(phases) == row.publishers and max(gaps) <= SPREAD * row.cycle / row.publishers
+
+
+def spread_node(start: Start, row: Row, sink: socket.socket, phases: list[float]) -> Started:
+    """Starts a program until its publishers are spread: what holds up one of them is the host, or the daemon that
+    slept."""
+    while True:
+        node = start(row, sink.getsockname()[1], phases)
+        if is_spread(row, arrivals(sink, 2 * row.cycle)):
+            return node
+        node.end()
+        for _ in arrivals(sink, row.cycle):
+            pass
+
+
 def measured_round(start: Start, row: Row, phases: list[float]) -> Round:
     """Measures a program that sends the telegrams of a row, where one before had these phases."""
     with stamped() as sink:
-        node = start(row, sink.getsockname()[1], phases)
+        node = spread_node(start, row, sink, phases)
         try:
-            for _ in arrivals(sink, 2 * row.cycle):
-                pass
             begin, used = time.monotonic(), node.used()
             came = list(arrivals(sink, SECONDS))
             used = (node.used() - used) / (time.monotonic() - begin)

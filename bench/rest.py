@@ -39,6 +39,7 @@ SET_TIMERSLACK = 29                               # Linux: says by prctl how lat
 SLACK = 1_000                                     # nanoseconds: TimerSlackNSec= of the unit
 STOLEN = 8                                        # Linux: the place in a line of /proc/stat of what the host took away
 LIBC = ctypes.CDLL(None)
+PROCESSORS = sorted(os.sched_getaffinity(0), reverse=True)
 Found = TypeVar("Found")
 
 
@@ -217,24 +218,34 @@ def quiet_row(program: str, name: str, kind: Sequence[str], seconds: float) -> N
 
 
 @contextlib.contextmanager
-def flooding(port: int, datagram: bytes, processes: int = 1) -> Iterator[None]:
-    """Has that many processes send a datagram to a port without end meanwhile."""
+def flooding(port: int, datagram: bytes, processes: int = 1) -> Iterator[list[int]]:
+    """Has that many processes send a datagram to a port without end meanwhile. Answers their ids."""
     children = [flood(port, datagram) for _ in range(processes)]
     try:
-        yield
+        yield children
     finally:
         for child in children:
             os.kill(child, signal.SIGKILL)
             os.waitpid(child, 0)
 
 
-def flooded_times(program: str, kind: Sequence[str], flooded: str, slots: int = 2, processes: int = 1) -> list[float]:
+def keep_apart(processes: Sequence[int]) -> None:
+    """Keeps this process and these each on a processor of its own, where there are as many."""
+    if len(processes) < len(PROCESSORS):
+        for process, processor in zip([0, *processes], PROCESSORS):
+            os.sched_setaffinity(process, {processor})
+
+
+def flooded_times(program: str, kind: Sequence[str], flooded: str, slots: int = 2, processes: int = 1,
+                  apart: bool = False) -> list[float]:
     """How long calls wait at a node with that many slots, one port of which that many processes send to without end, in
-    microseconds."""
+    microseconds; with the caller, the node and the flood apart from each other or not."""
     port_of, datagram = FLOODS[flooded]
     node = Node(program, kind, slots)
     try:
-        with flooding(port_of(node), datagram, processes):
+        with flooding(port_of(node), datagram, processes) as children:
+            if apart:
+                keep_apart([node.process.pid, *children])
             return answer_times(node, lambda: 0.001)
     finally:
         node.end()
