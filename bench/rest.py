@@ -35,6 +35,7 @@ CALLS = 300
 SO_TIMESTAMPNS = 35                               # Linux: the moment at which a datagram came, in nanoseconds
 CLOCK_OF = 2                                      # Linux: of a process's clocks, that of its processor time
 LOOKS = 0.005                                     # seconds between two looks at what came, so that none wakes a process
+SET_PDEATHSIG = 1                                 # Linux: says by prctl which signal comes when the parent ends
 SET_TIMERSLACK = 29                               # Linux: says by prctl how late a sleep may end
 SLACK = 1_000                                     # nanoseconds: TimerSlackNSec= of the unit
 STOLEN = 8                                        # Linux: the place in a line of /proc/stat of what the host took away
@@ -43,8 +44,14 @@ PROCESSORS = sorted(os.sched_getaffinity(0), reverse=True)
 Found = TypeVar("Found")
 
 
-def set_slack() -> None:
-    """Gives this process the timer slack that the unit gives."""
+def end_with_parent() -> None:
+    """Has the system end this process once the one that made it has ended, by a signal too."""
+    LIBC.prctl(SET_PDEATHSIG, signal.SIGKILL, 0, 0, 0)
+
+
+def begin_program() -> None:
+    """Gives this process the timer slack that the unit gives, and has it end with the script."""
+    end_with_parent()
     LIBC.prctl(SET_TIMERSLACK, SLACK, 0, 0, 0)
 
 
@@ -73,7 +80,7 @@ class Started:
     def __init__(self, words: Sequence[str], controls: list[int], said: IO[str] | None = None) -> None:
         self.controls = controls
         self.process = subprocess.Popen(words, stdin=said, stdout=subprocess.DEVNULL, stderr=subprocess.DEVNULL,
-                                        preexec_fn=set_slack)
+                                        preexec_fn=begin_program)
         try:
             self.clients = [self.client(it) for it in controls]
         except BaseException:
@@ -196,6 +203,7 @@ def flood(port: int, datagram: bytes) -> int:
     """Starts a process that sends a datagram to a port without end. Answers its id."""
     child = os.fork()
     if child == 0:
+        end_with_parent()
         out = socket.socket(socket.AF_INET, socket.SOCK_DGRAM)
         out.connect((HOST, port))
         while True:
