@@ -6,9 +6,9 @@
 bench/bare_rest.rs, which rustc builds, is that loop: it sleeps until the next telegram is due, at the moments at which
 the program after the change sent, at most a millisecond at a time, or in one piece; after each sleep it answers what
 came. It, the program before a change and the one after it send the telegrams of the same publishers, whose phases are
-spread over the cycle, to a socket on this machine, in turns, for a second in each round. A round begins once no gap
-between two phases is more than three times the mean. Of the rounds of each a third counts, those from which the host
-took the least processor time away. Printed are of these together
+spread over the cycle, to a socket on this machine, in turns, for a second in each round, or for 300 telegrams. A round
+begins once no gap between two phases is more than three times the mean. Of the rounds of each a third counts, those
+from which the host took the least processor time away. Printed are of these together
 
     processor     the share of a processor that it takes meanwhile (user and system)
     late          how much later than the earliest of its publisher a telegram came, by the system's stamp, median and
@@ -35,7 +35,7 @@ from control_lines import free_ports
 from rest import (HOST, TOP, Node, Started, answer_times, arrivals, flooding, lateness, quietest, share, short_while,
                   stamped, watched)
 
-SECONDS = 1.0                                     # of telegrams in a round
+SECONDS, TELEGRAMS = 1.0, 300                     # of a round, at the least
 CALLS = 60                                        # of a round
 PAYLOAD = 8                                       # bytes
 TELEGRAM = 40 + PAYLOAD                           # bytes
@@ -133,7 +133,7 @@ def measured_round(start: Start, row: Row, phases: list[float]) -> Round:
         node = spread_node(start, row, sink, phases)
         try:
             begin, used = time.monotonic(), node.used()
-            came = list(arrivals(sink, SECONDS))
+            came = list(arrivals(sink, max(SECONDS, TELEGRAMS * row.cycle / row.publishers)))
             used = (node.used() - used) / (time.monotonic() - begin)
             answers = answer_times(node, short_while, CALLS)
         finally:
