@@ -2,15 +2,16 @@
 """How long a call waits for its answer beside a port that is sent to without end: two programs, as before and after a
 change.
 
-    bench/floods.py BEFORE AFTER [ROUNDS] [SLOTS] [PROCESSES]         default: 45 rounds, 2 slots, 1 process
+    bench/floods.py BEFORE AFTER [ROUNDS] [SLOTS] [PROCESSES]         default: 60 rounds, 2 slots, 1 process
 
 The port is the control port of the slot beside it, or that of process data or of message data, and that many processes
-send to it. In each round, of some three seconds, each of the two programs has 300 calls beside each flood. The caller,
-the node and the flood each have a processor of their own, where there are as many, so that it doesn't count where the
-system puts them. Of a program's rounds beside a flood a third counts, those from which the host took the least
-processor time away. Printed are the median and the 99th percentile of all calls of these, in microseconds, and how much
-later the 99th percentile is after the change: between these two is nine tenths of the samples of the rounds, each as
-many as they are and drawn with repeats. All is at 127.0.0.1.
+send to it. In each round, of some six seconds, each of the two programs has 300 calls beside each flood by a caller
+that sleeps until its answer comes, and 300 by one that never sleeps, behind 30 that don't count. The caller, the node
+and the flood each have a processor of their own, where there are as many, so that it doesn't count where the system
+puts them. Of the rounds beside a flood those count from which the host took the least processor time away: a third,
+and each from which it took as little. Printed are how many these are, the median and the 99th percentile of all their
+calls, in microseconds, before and after the change, and how much later each is after it: between these two is nine
+tenths of the samples of the rounds, each as many as they are and drawn with repeats. All is at 127.0.0.1.
 """
 from __future__ import annotations
 
@@ -18,40 +19,65 @@ import random
 import sys
 from functools import partial
 
-from rest import FLOODS, flooded_times, quietest, share, watched
+from rest import FLOODS, Node, answer_times, awake_times, beside, brief_while, quietest, share, watched
 
 SAMPLES = 500
+PARTS = (0.5, 0.99)
+CALLERS = ("sleeps", "looks")
+HEAD = (f"{'flooded':24}{'rounds':>6}{'median':>12}{'after':>8}{'later':>16}{'99 %':>12}{'after':>8}"
+        f"{'later':>16}   (microseconds)")
+Times = tuple[list[float], list[float]]
 
 
-def later(before: list[list[float]], after: list[list[float]]) -> tuple[float, float]:
-    """How much later the 99th percentile is after a change, in microseconds: nine tenths of the samples of rounds."""
-    def sample(rounds: list[list[float]]) -> float:
-        return share([it for times in random.choices(rounds, k=len(rounds)) for it in times], 0.99)
+def both_callers(node: Node) -> Times:
+    """How long the calls of each kind of caller wait, in microseconds."""
+    return answer_times(node, brief_while), awake_times(node)
 
-    differences = [sample(after) - sample(before) for _ in range(SAMPLES)]
-    return share(differences, 0.05), share(differences, 0.95)
+
+def one_round(flooded: str, programs: dict[str, str], slots: int, processes: int) -> dict[str, Times]:
+    """The same of each program, by its name and in this order, beside a flood."""
+    return {name: beside(flooded, both_callers, program, ["daemon"], slots, processes, apart=True)
+            for name, program in programs.items()}
+
+
+def part_of(rounds: list[list[float]], part: float) -> float:
+    """The time that this part of the calls of all these rounds doesn't go beyond."""
+    return share([it for times in rounds for it in times], part)
+
+
+def later(before: list[list[float]], after: list[list[float]], part: float) -> str:
+    """How much later that part of the calls is after a change, in microseconds: nine tenths of the samples."""
+    rounds = [*zip(before, after)]
+    samples = (random.choices(rounds, k=len(rounds)) for _ in range(SAMPLES))
+    differences = [part_of([it for _, it in sample], part) - part_of([it for it, _ in sample], part)
+                   for sample in samples]
+    return f"{share(differences, 0.05):.1f} to {share(differences, 0.95):.1f}"
+
+
+def tell(name: str, before: list[list[float]], after: list[list[float]]) -> None:
+    """Prints a line."""
+    words = "".join(f"{part_of(before, it):12.1f}{part_of(after, it):8.1f}{later(before, after, it):>16}"
+                    for it in PARTS)
+    print(f"{name:24}{len(before):6}{words}")
 
 
 def main(words: list[str]) -> int:
-    """Measures the two programs in turns, and prints a line for each flood."""
+    """Measures the two programs in turns, and prints two lines for each flood."""
     if not 2 <= len(words) <= 5:
         print(__doc__, file=sys.stderr)
         return 2
-    programs, (rounds, slots, processes) = words[:2], [*map(int, words[2:]), *(45, 2, 1)[len(words) - 2:]]
-    found: dict[tuple[str, str], list[tuple[int, list[float]]]] = {}
+    programs = [*zip(("before", "after"), words)]
+    rounds, slots, processes = [*map(int, words[2:]), *(60, 2, 1)[len(words) - 2:]]
+    found: dict[str, list[tuple[int, dict[str, Times]]]] = {it: [] for it in FLOODS}
     for at in range(rounds):
         for flooded in FLOODS:
-            for program in programs if at % 2 == 0 else programs[::-1]:
-                measured = partial(flooded_times, program, ["daemon"], flooded, slots, processes, apart=True)
-                found.setdefault((flooded, program), []).append(watched(measured))
-    print(f"{'flooded':16}{'before: median':>16}{'99 %':>8}{'after: median':>16}{'99 %':>8}{'later at 99 %':>16}   "
-          "(microseconds)")
+            order = dict(programs if at % 2 == 0 else programs[::-1])
+            found[flooded].append(watched(partial(one_round, flooded, order, slots, processes)))
+    print(HEAD)
     for flooded in FLOODS:
-        rounds_of = [quietest(found[flooded, program]) for program in programs]
-        before, after = ([it for times in one for it in times] for one in rounds_of)
-        least, most = later(*rounds_of)
-        print(f"{flooded:16}{share(before, 0.5):16.0f}{share(before, 0.99):8.0f}{share(after, 0.5):16.0f}"
-              f"{share(after, 0.99):8.0f}{least:9.0f} to {most:.0f}")
+        counted = quietest(found[flooded])
+        for at, caller in enumerate(CALLERS):
+            tell(f"{flooded}, {caller}", *([it[name][at] for it in counted] for name, _ in programs))
     return 0
 
 

@@ -32,6 +32,7 @@ TOP = os.path.dirname(os.path.dirname(os.path.abspath(__file__)))
 HOST = "127.0.0.1"
 CYCLE = 0.1                                       # seconds
 CALLS = 300
+FIRST = 30                                        # calls that don't count, at a node that has just begun
 SO_TIMESTAMPNS = 35                               # Linux: the moment at which a datagram came, in nanoseconds
 CLOCK_OF = 2                                      # Linux: of a process's clocks, that of its processor time
 LOOKS = 0.005                                     # seconds between two looks at what came, so that none wakes a process
@@ -69,9 +70,9 @@ def watched(measured: Callable[[], Found]) -> tuple[int, Found]:
 
 
 def quietest(rounds: Sequence[tuple[int, Found]]) -> list[Found]:
-    """What those rounds found, a third of them, that the host disturbed least."""
-    ordered = sorted(rounds, key=lambda it: it[0])
-    return [found for _, found in ordered[:(len(ordered) + 2) // 3]]
+    """What those rounds found that the host disturbed least: a third of them, and each that it disturbed as little."""
+    most = sorted(ticks for ticks, _ in rounds)[(len(rounds) - 1) // 3]
+    return [found for ticks, found in rounds if ticks <= most]
 
 
 class Started:
@@ -188,9 +189,34 @@ def answer_times(node: Started, pause: Callable[[], float], count: int = CALLS) 
     return times
 
 
+def awake_times(node: Started, count: int = CALLS) -> list[float]:
+    """The same where the caller never sleeps: it looks for its answer until that is there, and at the clock in a pause.
+    So the time that the system takes to wake the caller doesn't count."""
+    times, caller, clock = [], node.clients[0], time.perf_counter
+    for _ in range(count):
+        start = clock() + random.uniform(0.0005, 0.0015)
+        while clock() < start:
+            pass
+        start = clock()
+        caller.send(b"get 1")
+        while clock() < start + 5:
+            with contextlib.suppress(BlockingIOError):
+                caller.recv(128, socket.MSG_DONTWAIT)
+                break
+        else:
+            sys.exit("a call has no answer")
+        times.append((clock() - start) * 1e6)
+    return times
+
+
 def short_while() -> float:
     """A pause in seconds out of which a call finds the node quiet."""
     return random.uniform(0.005, 0.05)
+
+
+def brief_while() -> float:
+    """A pause in seconds beside a flood, where the node is never quiet."""
+    return 0.001
 
 
 def process_data(com_id: int, payload: bytes, counter: int = 0) -> bytes:
@@ -244,17 +270,18 @@ def keep_apart(processes: Sequence[int]) -> None:
             os.sched_setaffinity(process, {processor})
 
 
-def flooded_times(program: str, kind: Sequence[str], flooded: str, slots: int = 2, processes: int = 1,
-                  apart: bool = False) -> list[float]:
-    """How long calls wait at a node with that many slots, one port of which that many processes send to without end, in
-    microseconds; with the caller, the node and the flood apart from each other or not."""
+def beside(flooded: str, measured: Callable[[Node], Found], program: str, kind: Sequence[str], slots: int = 2,
+           processes: int = 1, apart: bool = False) -> Found:
+    """What is measured at a node with that many slots, one port of which that many processes send to without end, after
+    its first calls; with the caller, the node and the flood apart from each other or not."""
     port_of, datagram = FLOODS[flooded]
     node = Node(program, kind, slots)
     try:
         with flooding(port_of(node), datagram, processes) as children:
             if apart:
                 keep_apart([node.process.pid, *children])
-            return answer_times(node, lambda: 0.001)
+            answer_times(node, brief_while, FIRST)
+            return measured(node)
     finally:
         node.end()
 
@@ -277,7 +304,7 @@ def main(words: list[str]) -> None:
         quiet_row(program, name, kind, seconds)
     for flooded in FLOODS:
         for name, kind in kinds.items():
-            times = flooded_times(program, kind, flooded)
+            times = beside(flooded, lambda node: answer_times(node, brief_while), program, kind)
             print(f"{name + ', ' + flooded + ' flooded':36}{'':34}{share(times, 0.5):16.0f}{share(times, 0.99):8.0f}")
 
 
