@@ -5,7 +5,7 @@ and after a change.
 
     bench/answer_trace.py BEFORE AFTER [ROUNDS] [SLOTS]               default: 60 rounds, 2 slots; as root
 
-The port is that of process data or of message data. In each round, of some three seconds, each of the two programs has
+The port is that of process data or of message data. In each round, of some two seconds, each of the two programs has
 300 calls beside each flood, behind 30 that don't count. Processors, rounds and what is printed are those of floods.py.
 It needs tracefs at /sys/kernel/tracing, whose clock counts microseconds, and makes a trace buffer of its own there. All
 is at 127.0.0.1.
@@ -17,16 +17,14 @@ import os
 import re
 import sys
 from collections.abc import Iterator
-from functools import partial
 
-from floods import HEAD, Times, tell
-from rest import Node, answer_times, beside, brief_while, quietest, watched
+from floods import Times, compare
+from rest import Node, answer_times, brief_while
 
 TRACE = "/sys/kernel/tracing/instances/trdp"
 EVENT = "events/syscalls/sys_enter_sendto/enable"
 SEND = re.compile(r"-(\d+) .* (\d+)\.(\d{6}): sys_sendto")
 FLOODED = ("process data", "message data")        # a node sends nothing at them, but its answers to the calls
-PARTS_OF = ("the node", "the caller")
 
 
 def set_trace(name: str, words: str) -> None:
@@ -38,7 +36,10 @@ def set_trace(name: str, words: str) -> None:
 @contextlib.contextmanager
 def tracing() -> Iterator[None]:
     """Has the system trace what is sent, meanwhile."""
-    os.makedirs(TRACE, exist_ok=True)
+    try:
+        os.makedirs(TRACE, exist_ok=True)
+    except OSError as fault:
+        sys.exit(f"answer_trace.py: the system traces nothing here: {fault}")
     try:
         set_trace("tracing_on", "0")
         set_trace("trace_clock", "mono")
@@ -62,33 +63,17 @@ def traced_times(node: Node) -> Times:
     if [pid for pid, _ in sends] != [caller, answers] * len(whole):
         sys.exit("answer_trace.py: something else was sent")
     own = [float(then - moment) for (_, moment), (_, then) in zip(sends[::2], sends[1::2])]
-    return own, [it - node for it, node in zip(whole, own)]
-
-
-def one_round(flooded: str, programs: dict[str, str], slots: int) -> dict[str, Times]:
-    """The same of each program, by its name and in this order, beside a flood."""
-    return {name: beside(flooded, traced_times, program, ["daemon"], slots, apart=True)
-            for name, program in programs.items()}
+    return own, [it - by_node for it, by_node in zip(whole, own)]
 
 
 def main(words: list[str]) -> int:
-    """Measures the two programs in turns, and prints two lines for each flood."""
+    """Measures the two programs as the system traces them."""
     if not 2 <= len(words) <= 4:
         print(__doc__, file=sys.stderr)
         return 2
-    programs = [*zip(("before", "after"), words)]
     rounds, slots = [*map(int, words[2:]), *(60, 2)[len(words) - 2:]]
-    found: dict[str, list[tuple[int, dict[str, Times]]]] = {it: [] for it in FLOODED}
     with tracing():
-        for at in range(rounds):
-            for flooded in FLOODED:
-                order = dict(programs if at % 2 == 0 else programs[::-1])
-                found[flooded].append(watched(partial(one_round, flooded, order, slots)))
-    print(HEAD)
-    for flooded in FLOODED:
-        counted = quietest(found[flooded])
-        for at, part in enumerate(PARTS_OF):
-            tell(f"{flooded}, {part}", *([it[name][at] for it in counted] for name, _ in programs))
+        compare(words, FLOODED, ("the node", "the caller"), traced_times, rounds, slots)
     return 0
 
 

@@ -32,8 +32,8 @@ from functools import partial
 from typing import NamedTuple
 
 from control_lines import free_ports
-from rest import (HOST, TOP, Node, Started, answer_times, arrivals, flooding, lateness, quietest, share, short_while,
-                  stamped, watched)
+from rest import (HOST, TOP, Node, Started, answer_times, arrivals, brief_while, flooding, lateness, quietest, share,
+                  short_while, stamped, watched)
 
 SECONDS, TELEGRAMS = 1.0, 300                     # of a round, at the least
 CALLS = 60                                        # of a round
@@ -86,7 +86,7 @@ def started_node(program: str, row: Row, sink: int) -> Started:
     is due. One that is late waits for the next cycle."""
     node = Node(program, ["daemon"], 1, f"publishers = {row.publishers}\n")
     with flooding(node.pd, b"wake", 2):
-        answer_times(node, lambda: 0.001, 5)
+        answer_times(node, brief_while, 5)
         begin = time.monotonic()
         for number in range(row.publishers):
             time.sleep((begin + row.cycle * number / row.publishers - time.monotonic()) % row.cycle)

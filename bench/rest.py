@@ -6,8 +6,9 @@
 For each of the two: the share of a processor that a node takes at which nothing comes, with three ports and a publisher
 of 100 ms; how late its telegrams leave, by the system's stamp at the socket that they come to, from the earliest one
 on; and how long a call waits for its answer, after a pause of 5 to 50 ms. Then how long it waits while the control
-port of the slot beside it is sent to without end, and while the ports of process data and of message data are. All is
-at 127.0.0.1. Programs start with the timer slack that examples/systemd/trdpd.service gives the daemon.
+port of the slot beside it is sent to without end, and while the ports of process data and of message data are; the
+first calls of a node that has just begun don't count there. All is at 127.0.0.1. Programs start with the timer slack
+that examples/systemd/trdpd.service gives the daemon.
 """
 from __future__ import annotations
 
