@@ -17,13 +17,11 @@ idle_step most =
     if nat_lt (most - 200) 1000 then Sleep most else Wait ((most - 200) / 1000)
 
 -- the step of a rest of at most that many microseconds, where something was heard since the rest
--- before or not, a turn without a rest goes on or not, and one in which nothing was heard asks again
--- before a rest or doesn't
-unfoldable pub step_of : (heard : Bool) → ℕ → (goes_on looks_again : Bool) → RestStep
-step_of true most goes_on looks_again = busy_step goes_on
-step_of false zero goes_on looks_again = busy_step goes_on
-step_of false (suc n) goes_on true = Look
-step_of false (suc n) goes_on false = idle_step (suc n)
+-- before or not, and a turn without a rest goes on or not
+unfoldable pub step_of : (heard : Bool) → ℕ → (goes_on : Bool) → RestStep
+step_of true most goes_on = busy_step goes_on
+step_of false zero goes_on = busy_step goes_on
+step_of false (suc n) goes_on = idle_step (suc n)
 
 -- whether a step is a rest
 abbrev pub is_rest : RestStep → Bool
@@ -36,13 +34,6 @@ is_rest (Wait millis) = true
 -- microseconds
 abbrev pub goes_on_after : RestStep → (began ended : ℕ) → Bool
 goes_on_after step began ended = is_rest step && nat_le 100 (ended - began)
-
--- whether the next turn in which nothing is heard asks again before a rest, after a step between
--- these readings: after a rest of less than 100 microseconds; after a turn without one, if it still
--- does
-abbrev pub looks_again_after : RestStep → (still : Bool) → (began ended : ℕ) → Bool
-looks_again_after step still began ended =
-    if is_rest step then nat_lt (ended - began) 100 else still
 
 -- whether there was no rest for 50 milliseconds up to this reading: since the first turn without
 -- one, or the first after the latest sleep for being busy

@@ -8,8 +8,7 @@ use Rattle.trdp_daemon.specs.declared.resting_wire.RestingWire.{RestingWire}
 use Rattle.trdp_daemon.specs.News.{WaitsForNews, all_news, has_news, news_after}
 use Rattle.trdp_daemon.specs.declared.rest_step.RestStep.{RestStep}
 use Rattle.trdp_daemon.specs.declared.rest_step.RestStep.TheVariants.{GoOn, Look, Sleep, Wait}
-use Rattle.trdp_daemon.specs.RestSteps.{PausesSo, goes_on_after, looks_again_after, rest_left}
-use Rattle.trdp_daemon.specs.RestSteps.{step_of}
+use Rattle.trdp_daemon.specs.RestSteps.{PausesSo, goes_on_after, rest_left, step_of}
 use Rattle.trdp_daemon.specs.Sockets.{SocketCall, socket_of}
 use Rattle.trdp_daemon.specs.SocketWires.{TakesAtSocket}
 use Rattle.trdp_daemon.specs.Told.{TellsMore}
@@ -96,7 +95,6 @@ pub record RestsSo {S C : Type 0} (calls_of : S → Option (List SocketCall))
   pub ended : ℕ
   pub step : RestStep
   pub step_is : step ≡ step_of old.heard (rest_left old.rested began most) old.goes_on
-      old.looks_again
   pub read : TellsMore (readings_of old.clock) (readings_of new.clock) (began ∷ ended ∷ [])
   pub pauses : PausesSo step began (sleeps_of old.clock) (sleeps_of new.clock) old.busy new.busy
   pub asks : AsksInStep old.has_few_ports step (calls_of old.wire.sockets)
@@ -107,8 +105,6 @@ pub record RestsSo {S C : Type 0} (calls_of : S → Option (List SocketCall))
     news = new.news;
     heard = false;
     goes_on = goes_on_after step began ended;
-    looks_again = old.has_few_ports
-        && looks_again_after step (old.heard && old.looks_again) began ended;
     busy = new.busy;
     rested = Some ended;
   }
@@ -121,7 +117,6 @@ pub record IsFresh {S C : Type 0} (clock : C) (few : Bool) (wire : RestingWire S
   pub news : (socket : ℕ) → has_news wire.news socket ≡ true
   pub heard : wire.heard ≡ false
   pub goes_on : wire.goes_on ≡ true
-  pub looks_again : wire.looks_again ≡ false
   pub busy : wire.busy ≡ None
   pub rested : wire.rested ≡ None
   pub failures : wire.wire.failures ≡ 0

@@ -2,7 +2,7 @@
 
 ghost use Rattle.std.specs.Prelude.{◌≡◌};
 ghost use Rattle.trdp_daemon.specs.RestSteps.{busy_step, goes_on_after, idle_step, is_breathless};
-ghost use Rattle.trdp_daemon.specs.RestSteps.{is_rest, looks_again_after, rest_left, step_of};
+ghost use Rattle.trdp_daemon.specs.RestSteps.{is_rest, rest_left, step_of};
 
 /// How much earlier than asked a wait ends, in microseconds: the system comes late.
 const WAKE_TIME: u64 = 200;
@@ -33,15 +33,13 @@ pub(crate) enum RestStep {
 impl RestStep {
     /// The step of a rest of at most `most` microseconds. `heard` is whether something was heard
     /// since the rest before, `goes_on` whether a turn without a rest goes on without asking for
-    /// news, `looks_again` whether a turn in which nothing was heard asks for them before a rest.
+    /// news.
     #[tactic(auto, unfolding(crate::specs::RestSteps::step_of))]
-    pub(crate) fn of(heard: bool, most: u64, goes_on: bool, looks_again: bool) -> RestStep
-        ensures { result ≡ step_of heard most goes_on looks_again }
+    pub(crate) fn of(heard: bool, most: u64, goes_on: bool) -> RestStep
+        ensures { result ≡ step_of heard most goes_on }
     {
         if heard || most == 0 {
             busy_step(goes_on)
-        } else if looks_again {
-            RestStep::Look
         } else {
             idle_step(most)
         }
@@ -54,19 +52,6 @@ impl RestStep {
         ensures { result ≡ goes_on_after self began ended }
     {
         self.is_rest() && CALM_REST <= ended.saturating_sub(began)
-    }
-
-    /// Whether the next turn in which nothing is heard looks again before a rest, after this step
-    /// between these readings of the clock. It does after a short rest, as things come close
-    /// together then; `still` is whether it does after a turn without a rest.
-    pub(crate) fn looks_again(self, still: bool, began: u64, ended: u64) -> bool
-        ensures { result ≡ looks_again_after self still began ended }
-    {
-        if self.is_rest() {
-            ended.saturating_sub(began) < CALM_REST
-        } else {
-            still
-        }
     }
 
     /// Whether it is a rest: a sleep or a wait.

@@ -45,9 +45,7 @@ const BREATH: u64 = 50;
 /// handled is taken in the same turn, if its port is still to come.
 ///
 /// A wire of few UDP ports makes no wait there: it assumes that there are news of each port, and
-/// so asks each. That is as quick, and a flood does not slow it down. After a rest of less than
-/// 100 microseconds it also asks each once more before it rests again: the turn after the first
-/// one in which nothing was heard does.
+/// so asks each. That is as quick, and a flood does not slow it down.
 #[derive(Drop)]
 pub struct RestingWire<S, C> {
     /// The ports.
@@ -63,9 +61,6 @@ pub struct RestingWire<S, C> {
     /// Whether this turn goes on without asking where news are, if it has no rest: the first after
     /// a rest that wasn't short does, and one that has asked.
     pub(crate) goes_on: bool,
-    /// Whether a turn in which nothing is heard asks where news are before it rests: with few
-    /// ports the first one after a rest that was short, as things come close together then.
-    pub(crate) looks_again: bool,
     /// The reading of the clock at the end of the first turn without a rest; None where each since
     /// the latest rest had one.
     pub(crate) busy: Option<u64>,
@@ -153,7 +148,6 @@ impl<S: Sockets, C: Clock + Drop> RestingWire<S, C> {
             news: [true; SOCKETS_MAX],
             heard: false,
             goes_on: true,
-            looks_again: false,
             busy: None,
             rested: None,
         }
@@ -332,14 +326,12 @@ impl<S: Sockets, C: Clock + Drop> Wire for RestingWire<S, C> {
         // rest had ended: the turn has used some of it.
         let began = self.clock.now();
         let left = rest_left(self.rested, began, most);
-        let step = RestStep::of(self.heard, left, self.goes_on, self.looks_again);
+        let step = RestStep::of(self.heard, left, self.goes_on);
+        self.heard = false;
         self.pause(step, began);
         self.ask_in(step);
         let ended = self.clock.now();
         self.goes_on = step.goes_on(began, ended);
-        let still = self.heard && self.looks_again;
-        self.looks_again = self.has_few_ports && step.looks_again(still, began, ended);
-        self.heard = false;
         self.rested = Some(ended);
     }
 

@@ -9,7 +9,6 @@ returns-clause-fresh g c = record {
   news = λ socket. each_there 98 socket;
   heard = refl;
   goes_on = refl;
-  looks_again = refl;
   busy = refl;
   rested = refl;
   failures = c.over.ensures.failures;
