@@ -271,10 +271,11 @@ def keep_apart(processes: Sequence[int]) -> None:
             os.sched_setaffinity(process, {processor})
 
 
-def beside(flooded: str, measured: Callable[[Node], Found], program: str, kind: Sequence[str], slots: int = 2,
-           processes: int = 1, apart: bool = False) -> Found:
-    """What is measured at a node with that many slots, one port of which that many processes send to without end, after
-    its first calls; with the caller, the node and the flood apart from each other or not."""
+@contextlib.contextmanager
+def beside(flooded: str, program: str, kind: Sequence[str], slots: int = 2, processes: int = 1,
+           apart: bool = False) -> Iterator[tuple[Node, list[int]]]:
+    """A node with that many slots, one port of which that many processes send to without end, after its first calls;
+    with the caller, the node and the flood apart from each other or not. And the ids of these processes."""
     port_of, datagram = FLOODS[flooded]
     node = Node(program, kind, slots)
     try:
@@ -282,7 +283,7 @@ def beside(flooded: str, measured: Callable[[Node], Found], program: str, kind: 
             if apart:
                 keep_apart([node.process.pid, *children])
             answer_times(node, brief_while, FIRST)
-            return measured(node)
+            yield node, children
     finally:
         node.end()
 
@@ -305,7 +306,8 @@ def main(words: list[str]) -> None:
         quiet_row(program, name, kind, seconds)
     for flooded in FLOODS:
         for name, kind in kinds.items():
-            times = beside(flooded, lambda node: answer_times(node, brief_while), program, kind)
+            with beside(flooded, program, kind) as (node, _):
+                times = answer_times(node, brief_while)
             print(f"{name + ', ' + flooded + ' flooded':36}{'':34}{share(times, 0.5):16.0f}{share(times, 0.99):8.0f}")
 
 
