@@ -1,7 +1,7 @@
 -- At which sockets something may be: where the system has reported news since a take found
--- nothing, and at each where a wire of few ports says so without asking the system.
+-- nothing.
 use Rattle.std.specs.Prelude.{◌≡◌, ℕ, List, [], ◌∷◌, Bool, true, false, if◌then◌else◌}
-use Rattle.std.specs.Prelude.{slice_index_or, slice_set, length, replicate, Option}
+use Rattle.std.specs.Prelude.{slice_index_or, slice_set, Option}
 use Rattle.trdp_daemon.specs.Sockets.{SocketCall, Waits}
 use Rattle.trdp_daemon.specs.Told.{TellsMore}
 
@@ -13,10 +13,6 @@ has_news news socket = slice_index_or news socket true
 abbrev pub with_news : List ℕ → List Bool → List Bool
 with_news [] news = news
 with_news (socket ∷ told) news = with_news told (slice_set news socket true)
-
--- something may be at each
-abbrev pub all_news : List Bool → List Bool
-all_news news = replicate (length news) true
 
 -- the news after a take at a socket that found something or not
 abbrev pub news_after : Bool → ℕ → List Bool → List Bool

@@ -30,6 +30,15 @@ is_rest Look = false
 is_rest (Sleep micros) = true
 is_rest (Wait millis) = true
 
+-- the clock is read where a step begins, and again where it ends if it is a rest: else it ends at
+-- once
+abbrev pub ReadsSo : (is_rest : Bool) → (began ended : ℕ)
+    → (readings readings_then : Option (List ℕ)) → Type 0
+ReadsSo true began ended readings readings_then =
+    TellsMore readings readings_then (began ∷ ended ∷ [])
+ReadsSo false began ended readings readings_then =
+    TellsMore readings readings_then (began ∷ []) × (ended ≡ began)
+
 -- whether the next turn goes on, after a step between these readings: after a rest of at least 100
 -- microseconds
 abbrev pub goes_on_after : RestStep → (began ended : ℕ) → Bool

@@ -1,7 +1,7 @@
 //! At which sockets something may be.
 
-ghost use Rattle.std.specs.Prelude.{◌≡◌, slice_set, true};
-ghost use Rattle.trdp_daemon.specs.News.{all_news, has_news, with_news};
+ghost use Rattle.std.specs.Prelude.{◌≡◌, slice_set};
+ghost use Rattle.trdp_daemon.specs.News.{has_news, with_news};
 
 /// Whether there are news of the socket of that number; always true of one of which none are kept.
 pub(crate) fn has_news(news: &[bool], socket: usize) -> bool
@@ -20,13 +20,6 @@ pub(crate) fn set_news(news: &mut [bool], socket: usize, is_there: bool)
     if socket < news.len() {
         news[socket] = is_there;
     }
-}
-
-/// Notes that something may be at each socket.
-pub(crate) fn note_all(news: &mut [bool])
-    ensures { news.new ≡ all_news news.old }
-{
-    news.fill(true);
 }
 
 /// Notes that there are news of these sockets.

@@ -55,7 +55,7 @@ impl RestStep {
     }
 
     /// Whether it is a rest: a sleep or a wait.
-    fn is_rest(self) -> bool
+    pub(crate) fn is_rest(self) -> bool
         ensures { result ≡ is_rest self }
     {
         match self {

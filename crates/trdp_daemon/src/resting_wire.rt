@@ -2,8 +2,7 @@
 
 ghost use Rattle.std.specs.Prelude.{◌≡◌, ◌<◌, ◌≤◌, ◌++◌, length, map, None, Some, IfOk, IfErr};
 ghost use Rattle.std.specs.Prelude.{IfSome, OnErr, false, true, slice_set};
-ghost use Rattle.trdp_daemon.specs.News.{has_news};
-ghost use Rattle.trdp_daemon.specs.RestingWires.{RestsSo, TakesSo};
+ghost use Rattle.trdp_daemon.specs.RestingWires.{RestsSo, TakesSo, news_at};
 ghost use Rattle.trdp_daemon.specs.Sockets.{MadeInTurn, binds_of, watches_of};
 ghost use Rattle.trdp_daemon.specs.Sockets.{network_binds_of, network_watches_of, socket_of};
 ghost use Rattle.trdp_daemon.specs.SocketWires.{GivesAtSocket};
@@ -12,7 +11,7 @@ use crate::bind_fault::BindFault;
 use crate::clock::Clock;
 use crate::fault::WireFault;
 use crate::groups::Groups;
-use crate::news::{has_news, note_all, set_news};
+use crate::news::{has_news, set_news};
 use crate::opening::{bind_and_watch_network, bind_and_watch_ports};
 use crate::port::Port;
 use crate::ports::has_few_ports;
@@ -44,8 +43,11 @@ const BREATH: u64 = 50;
 /// there are no news, or else at the turn's end. So a datagram that comes while another one is
 /// handled is taken in the same turn, if its port is still to come.
 ///
-/// A wire of few UDP ports makes no wait there: it assumes that there are news of each port, and
-/// so asks each. That is as quick, and a flood does not slow it down.
+/// A wire of few UDP ports makes no wait there. In place of that it asks each port, whatever news
+/// there are of it: in what is left of the turn, or in the next one where the turn ends. It does so
+/// at the turn's end even where a take of the turn has asked, so that each turn asks each port while
+/// things come close together. That is as quick as a wait, and a flood does not slow it down. News
+/// stay as they are there.
 #[derive(Drop)]
 pub struct RestingWire<S, C> {
     /// The ports.
@@ -54,12 +56,15 @@ pub struct RestingWire<S, C> {
     pub(crate) clock: C,
     /// Whether it has few ports, and each is asked where others ask the system without a rest.
     pub(crate) has_few_ports: bool,
+    /// Whether each port is asked up to the next rest, whatever news there are of it; always false
+    /// of a wire of more than few ports.
+    pub(crate) asks_each: bool,
     /// For the number of each socket, whether something may be there.
     pub(crate) news: [bool; SOCKETS_MAX],
     /// Whether something came or failed at a take since the latest rest.
     pub(crate) heard: bool,
     /// Whether this turn goes on without asking where news are, if it has no rest: the first after
-    /// a rest that wasn't short does, and one that has asked.
+    /// a rest that wasn't short does, and with more than few ports one that has asked.
     pub(crate) goes_on: bool,
     /// The reading of the clock at the end of the first turn without a rest; None where each since
     /// the latest rest had one.
@@ -69,15 +74,15 @@ pub struct RestingWire<S, C> {
 }
 
 impl<S: Sockets, C: Clock + Drop> RestingWire<S, C> {
-    ghost use Rattle.trdp_daemon.specs.News.{has_news};
     ghost use Rattle.trdp_daemon.specs.RestSteps.{Breathes, PausesSo};
     ghost use Rattle.trdp_daemon.specs.Ports.{has_few_ports};
     ghost use Rattle.std.specs.Prelude.{◌≡◌, ◌<◌, ◌≤◌, ◌++◌, length};
-    ghost use Rattle.std.specs.Prelude.{IfOk, IfErr, IfSome, OnErr, None, Some, false};
-    ghost use Rattle.trdp_daemon.specs.Sockets.{MadeInTurn, binds_of, watches_of, socket_of};
+    ghost use Rattle.std.specs.Prelude.{IfOk, IfErr, IfSome, OnErr, None, Some, false, ◌||◌};
+    ghost use Rattle.trdp_daemon.specs.Sockets.{MadeInTurn, binds_of, watches_of};
     ghost use Rattle.trdp_daemon.specs.Sockets.{network_binds_of, network_watches_of};
     ghost use Rattle.trdp_daemon.specs.RestingWires.{AsksAtOnce, AsksInStep, IsFresh, LooksIf};
-    ghost use Rattle.trdp_daemon.specs.RestingWires.{TakesIfNews, looks_first};
+    ghost use Rattle.trdp_daemon.specs.RestingWires.{TakesIfNews, asks_each_after, looks_first};
+    ghost use Rattle.trdp_daemon.specs.RestingWires.{news_at};
 
     /// Binds sockets at the ports that a configuration names, as [`UdpWire::open`] does, and then
     /// has waits end when a datagram comes at one of them.
@@ -145,6 +150,7 @@ impl<S: Sockets, C: Clock + Drop> RestingWire<S, C> {
             wire: UdpWire::over(sockets, groups),
             clock,
             has_few_ports: few,
+            asks_each: false,
             news: [true; SOCKETS_MAX],
             heard: false,
             goes_on: true,
@@ -171,27 +177,27 @@ impl<S: Sockets, C: Clock + Drop> RestingWire<S, C> {
     /// in this turn, and the turn doesn't go on without asking.
     fn look_first(&mut self, port: Port)
         ensures looks { LooksIf (looks_first self.old.heard self.old.goes_on
-            (has_news self.old.news (socket_of self.old.wire.groups port))) S.calls
-            self.old self.new }
+            (news_at self.old port)) S.calls self.old self.new }
     {
         if self.heard && !self.goes_on && !self.has_news(port) {
             self.ask_at_once();
-            self.goes_on = true;
+            self.goes_on = !self.has_few_ports;
         }
     }
 
-    /// Asks where news are without a rest: with few ports there may be some of each, and with more
-    /// the system is asked.
+    /// Asks where news are without a rest: with few ports each port from then on, and with more the
+    /// system.
     fn ask_at_once(&mut self)
         ensures asks { AsksAtOnce self.old.has_few_ports (S.calls self.old.wire.sockets)
             (S.calls self.new.wire.sockets) self.old.news self.new.news }
         ensures kept { self.new ≡ record self.old {
           wire = record self.old.wire { sockets = self.new.wire.sockets };
+          asks_each = self.old.has_few_ports || self.old.asks_each;
           news = self.new.news;
         } }
     {
         if self.has_few_ports {
-            note_all(&mut self.news);
+            self.asks_each = true;
         } else {
             self.wire.sockets.wait(0, &mut self.news);
         }
@@ -203,9 +209,11 @@ impl<S: Sockets, C: Clock + Drop> RestingWire<S, C> {
             (S.calls self.new.wire.sockets) self.old.news self.new.news }
         ensures kept { self.new ≡ record self.old {
           wire = record self.old.wire { sockets = self.new.wire.sockets };
+          asks_each = asks_each_after self.old.has_few_ports step;
           news = self.new.news;
         } }
     {
+        self.asks_each = false;
         match step {
             RestStep::GoOn => {}
             RestStep::Look => self.ask_at_once(),
@@ -225,8 +233,7 @@ impl<S: Sockets, C: Clock + Drop> RestingWire<S, C> {
     ) -> Result<Option<(Place, usize)>, WireFault>
         ensures within { IfOk result (λ found. IfSome found (λ f. f.1 ≤ length room.new)) }
         ensures fault { OnErr result (self.old.wire.failures < self.new.wire.failures) }
-        ensures takes { TakesIfNews
-            (has_news self.old.news (socket_of self.old.wire.groups port)) S.calls
+        ensures takes { TakesIfNews (news_at self.old port) S.calls
             self.old self.new port room.new result }
         ensures refusal { self.new.wire.refusal ≡ self.old.wire.refusal }
     {
@@ -236,7 +243,7 @@ impl<S: Sockets, C: Clock + Drop> RestingWire<S, C> {
         let (found, heard) = self.wire.ask(port, room);
         if heard {
             self.heard = true;
-        } else {
+        } else if !self.asks_each {
             self.set_news(port, false);
         }
         found
@@ -290,7 +297,7 @@ impl<S: Sockets, C: Clock + Drop> Wire for RestingWire<S, C> {
 
     ghost faults = { λ wire. wire.wire.failures };
 
-    ghost news = { λ wire port. has_news wire.news (socket_of wire.wire.groups port) };
+    ghost news = { λ wire port. news_at wire port };
 
     ghost ended = { λ _ _ _. false };
 
@@ -330,15 +337,19 @@ impl<S: Sockets, C: Clock + Drop> Wire for RestingWire<S, C> {
         self.heard = false;
         self.pause(step, began);
         self.ask_in(step);
-        let ended = self.clock.now();
+        let ended = if step.is_rest() {
+            self.clock.now()
+        } else {
+            began
+        };
         self.goes_on = step.goes_on(began, ended);
         self.rested = Some(ended);
     }
 
     fn has_news(&self, port: Port) -> bool
-        ensures { result ≡ has_news self.now.news (socket_of self.now.wire.groups port) }
+        ensures { result ≡ news_at self.now port }
     {
-        has_news(&self.news, self.wire.groups.socket_of(port))
+        self.asks_each || has_news(&self.news, self.wire.groups.socket_of(port))
     }
 
     fn has_ended(&self, _port: Port, _place: Place) -> bool {

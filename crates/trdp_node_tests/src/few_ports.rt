@@ -24,32 +24,44 @@ const PEER: Place = Place {
     port: 9000,
 };
 
-/// A wire with a line at the control port; None where an allocation fails.
+/// A wire with two lines at the control port; None where an allocation fails.
 fn wire(alloc: Global) -> Option<RestingWire<MemorySockets, MemoryClock>> {
     let config = NodeConfig::from_toml(alloc, NODE).ok()?;
     let clock = MemoryClock::new(alloc, &[]).ok()?;
     let mut sockets = MemorySockets::new(alloc);
-    sockets.arrive(CONTROL, PEER, b"get 1").ok()?;
+    for line in [b"get 1", b"get 2"] {
+        sockets.arrive(CONTROL, PEER, line).ok()?;
+    }
     RestingWire::open(alloc, sockets, clock, &config).ok()
 }
 
-/// Takes the line, and then nothing. The turn after that goes on without asking, and the next one
-/// asks at the port. All calls so far are the binding and watching of three sockets, and takes.
+/// Takes at ports in three turns, between which there are rests of no time. The second turn goes
+/// on from the first without asking, until it takes a line. From then on each port is asked, and
+/// so it is in the third turn. All calls so far are the binding and watching of three sockets, and
+/// takes.
 fn asks_each_port(
     rt: &(impl Abort + AllocGlobal),
     wire: &mut RestingWire<MemorySockets, MemoryClock>,
 ) {
     let mut room = [0; 16];
-    for (rests, found, calls) in [
-        (false, true, 7),
-        (false, false, 8),
-        (true, false, 8),
-        (true, false, 9),
+    for (port, found, calls) in [
+        (Some(Port::Control(0)), true, 7),
+        (Some(Port::Pd), false, 8),
+        (None, false, 8),
+        (Some(Port::Pd), false, 8),
+        (Some(Port::Control(0)), true, 9),
+        (Some(Port::Pd), false, 10),
+        (None, false, 10),
+        (Some(Port::Control(0)), false, 11),
+        (Some(Port::Pd), false, 12),
     ] {
-        if rests {
-            wire.rest(0);
-        }
-        let taken = wire.take(Port::Control(0), &mut room);
+        let taken = match port {
+            Some(port) => wire.take(port, &mut room),
+            None => {
+                wire.rest(0);
+                Ok(None)
+            }
+        };
         same(rt, calls, taken != Ok(None), found);
         same(rt, calls, wire.sockets().rows().len(), calls);
     }

@@ -211,9 +211,9 @@ fn plain(alloc: Global) -> Option<UdpWire<MemorySockets>> {
 /// A wire that rests.
 type Resting = RestingWire<MemorySockets, MemoryClock>;
 
-/// The readings of its clock where each rest begins and where it ends: a turn of 400 microseconds
-/// comes before the third rest, and no other turn takes time.
-const READINGS: [u64; 5] = [7, 7, 7, 7, 407];
+/// The readings of its clock where each rest begins and where a sleep or a wait ends: a turn of
+/// 400 microseconds comes before the third rest, and no other turn takes time.
+const READINGS: [u64; 4] = [7, 7, 7, 407];
 
 /// A wire that rests over these sockets, with a clock of these readings; None where an allocation
 /// fails.
@@ -230,7 +230,7 @@ fn resting(alloc: Global) -> Option<Resting> {
 
 /// The same with a clock that reads 50 milliseconds more from the third rest on.
 fn busy(alloc: Global) -> Option<Resting> {
-    over(alloc, sockets(alloc)?, &[7, 7, 7, 7, 50_007])
+    over(alloc, sockets(alloc)?, &[7, 7, 50_007])
 }
 
 /// Whether a row says that a wait of that many milliseconds reported these sockets.

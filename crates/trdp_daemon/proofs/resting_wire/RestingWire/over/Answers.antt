@@ -6,6 +6,7 @@ pub returns-clause-fresh : goal.returns-clause-fresh
 returns-clause-fresh g c = record {
   clock_is = refl;
   few_is = refl;
+  asks_each = refl;
   news = λ socket. each_there 98 socket;
   heard = refl;
   goes_on = refl;
