@@ -87,6 +87,11 @@ NAMES = {
 # What is said of configurations that are taken.
 QUOTAS = "0 publishers, 0 subscriptions, 0 requesters, 0 listeners, 1 callers, 0 repliers"
 MEANT = f"node 10.0.0.1: process data at port 17224, message data at port 17225\nslot 0, no control port: {QUOTAS}\n"
+NO_OPERATOR = ("warning: the node has no operator_port: nobody can make it lead a redundancy group, set its "
+               "topology counters or add a slot\n")
+NO_CALLS = "warning: slot {} has no control_port: no application can use it\n"
+# What is said of a node of one slot without any control port.
+BARE = NO_OPERATOR + NO_CALLS.format(0)
 REACHED = ("warning: the network reaches the control ports at {}: a stranger's datagram, an empty one too, takes a "
            "slot's indications, and his lines are its calls, of which `reset` ends all its objects; "
            "control_address = \"127.0.0.1\" keeps him out\n")
@@ -98,24 +103,25 @@ OTHERS = ["md_port", "operator_port", *(f"slot {it}, control_port" for it in ran
           *(f"spare_control_ports[{it}]" for it in range(15))]
 SPARE = [*range(18001, 18015), 65535]
 WORDS = [
-    (GOOD, MEANT),
+    (GOOD, MEANT + BARE),
     (open(f"{TOP}/rows/node.toml").read(),
      "node 10.0.0.1: process data at port 17224, message data at port 17225\n"
      + "".join(f"slot {it}, no control port: 4 publishers, 4 subscriptions, 1 requesters, 2 listeners, 2 callers, "
                "1 repliers\n" for it in (0, 1))
-     + "dataset 1001: elements 2, bytes 1 and more\ndataset 1002: elements 3, bytes 9 and more\n"),
+     + "dataset 1001: elements 2, bytes 1 and more\ndataset 1002: elements 3, bytes 9 and more\n"
+     + BARE + NO_CALLS.format(1)),
     (PORTS,
      "node 255.254.0.9: process data at port 1, message data at port 2\noperator at 127.0.0.1:65535\n"
      f"slot 0 at 127.0.0.1:18000: {QUOTAS.replace('1 callers', '0 callers')}\n"
      "slot 1, no control port: 256 publishers, 0 subscriptions, 0 requesters, 0 listeners, 0 callers, 7 repliers\n"
      "slots that are added have, at 127.0.0.1, the ports 0 18002 18002\n"
      "warning: spare_control_ports[1] and spare_control_ports[2] both name port 18002 at 127.0.0.1\n"
-     "warning: slot 0 can hold nothing: each of its quotas is 0\n"),
+     "warning: slot 0 can hold nothing: each of its quotas is 0\n" + NO_CALLS.format(1)),
     ("slot = [{ callers = 1 }]\nnode = { address = '10.0.0.1', control_address = '127.0.0.1', "
      f"spare_control_ports = {SPARE} }}\n",
-     MEANT + f"slots that are added have, at 127.0.0.1, the ports {' '.join(map(str, SPARE))}\n"),
-    (NODE + f"groups = {JOINED}\nttl = 255\n" + ONE, MEANT.replace("\nslot", f"\n{JOINS}slot")),
-    (GOOD + "[[telegram]]\ncom_id = 100\ndataset = 0\n", MEANT),
+     MEANT + f"slots that are added have, at 127.0.0.1, the ports {' '.join(map(str, SPARE))}\n" + BARE),
+    (NODE + f"groups = {JOINED}\nttl = 255\n" + ONE, MEANT.replace("\nslot", f"\n{JOINS}slot") + BARE),
+    (GOOD + "[[telegram]]\ncom_id = 100\ndataset = 0\n", MEANT + BARE),
     (GOOD + dataset(1001, 8)
      + "[[telegram]]\ncom_id = 100\ndataset = 1001\n[[telegram]]\ncom_id = 101\ndataset = 1002\n"
      "[[telegram]]\ndataset = -1\ncom_id = 100\n[[telegram]]\ncom_id = 'x'\ndataset = '1001'\n",
@@ -123,10 +129,10 @@ WORDS = [
      "warning: line 13, telegram 1: dataset = 1002: no dataset has this identifier\n"
      "warning: line 16, telegram 2: com_id = 100: an earlier telegram has the same\n"
      "warning: line 15, telegram 2: dataset = -1: no dataset has this identifier\n"
-     "warning: line 19, telegram 3: dataset = \"1001\": no dataset has this identifier\n"),
+     "warning: line 19, telegram 3: dataset = \"1001\": no dataset has this identifier\n" + BARE),
     (GOOD + "[telegram]\ncom_id = 100\ndataset = 0\n",
      MEANT + "warning: line 5, the file's root: telegram = { com_id = 100, dataset = 0 }: [[telegram]] is wanted, with "
-     "two brackets\n"),
+     "two brackets\n" + BARE),
     (NODE.replace("10.0.0.1", "127.0.0.1")
      + "md_port = 17224\noperator_port = 18000\nspare_control_ports = [0, 18001, 17225, 18000]\n"
      + ONE * 2 + "control_port = 18000\n" + ONE + "control_port = 0\n",
@@ -136,42 +142,44 @@ WORDS = [
      "slots that are added have, at 127.0.0.1, the ports 0 18001 17225 18000\n"
      "warning: pd_port and md_port both name port 17224 at 127.0.0.1\n"
      "warning: operator_port and slot 1, control_port both name port 18000 at 127.0.0.1\n"
-     "warning: operator_port and spare_control_ports[3] both name port 18000 at 127.0.0.1\n"),
+     "warning: operator_port and spare_control_ports[3] both name port 18000 at 127.0.0.1\n"
+     + NO_CALLS.format(0) + NO_CALLS.format(2)),
     (NODE + "control_address = '127.0.0.1'\n" + ONE + "control_port = 17224\n",
-     MEANT.replace(", no control port", " at 127.0.0.1:17224")),
+     MEANT.replace(", no control port", " at 127.0.0.1:17224") + NO_OPERATOR),
     (NODE.replace("10.0.0.1", "0.0.0.0") + "control_address = '127.0.0.1'\n" + ONE + "control_port = 17224\n",
      MEANT.replace("10.0.0.1", "0.0.0.0").replace(", no control port", " at 127.0.0.1:17224")
      + "warning: address is 0.0.0.0: its ports are at every interface, and a telegram counts as sent to 0.0.0.0\n"
-     "warning: pd_port and slot 0, control_port both name port 17224 at 127.0.0.1\n"),
-    (GOOD + dataset(1001, *map(repr, TYPES)), MEANT + "dataset 1001: elements 15, bytes 53\n"),
-    (GOOD + chain(5), MEANT + "".join(f"dataset {it}: elements 1, bytes 1\n" for it in range(1000, 1005))),
-    (GOOD + dataset(1001, 8, "9, size = 0", 15), MEANT + "dataset 1001: elements 3, bytes 7 and more\n"),
+     + NO_OPERATOR + "warning: pd_port and slot 0, control_port both name port 17224 at 127.0.0.1\n"),
+    (GOOD + dataset(1001, *map(repr, TYPES)), MEANT + "dataset 1001: elements 15, bytes 53\n" + BARE),
+    (GOOD + chain(5), MEANT + "".join(f"dataset {it}: elements 1, bytes 1\n" for it in range(1000, 1005)) + BARE),
+    (GOOD + dataset(1001, 8, "9, size = 0", 15), MEANT + "dataset 1001: elements 3, bytes 7 and more\n" + BARE),
     (GOOD + dataset(1001, "11, size = 180"),
-     MEANT + "dataset 1001: elements 1, bytes 1440\n"
-     "warning: no telegram of process data carries dataset 1001: it has 1440 bytes or more, and 1432 fit\n"),
+     MEANT + "dataset 1001: elements 1, bytes 1440\n" + BARE
+     + "warning: no telegram of process data carries dataset 1001: it has 1440 bytes or more, and 1432 fit\n"),
     (NODE + "operator_port = 18100\nspare_control_ports = [18001, 0]\ncontrol_address = '127.0.0.2'\n" + ONE
      + "control_port = 18000\n",
      "node 10.0.0.1: process data at port 17224, message data at port 17225\noperator at 127.0.0.2:18100\n"
      f"slot 0 at 127.0.0.2:18000: {QUOTAS}\nslots that are added have, at 127.0.0.2, the ports 18001 0\n"),
     (GOOD + "control_port = 18000\n",
-     MEANT.replace(", no control port", " at 10.0.0.1:18000") + REACHED.format("10.0.0.1")),
+     MEANT.replace(", no control port", " at 10.0.0.1:18000") + REACHED.format("10.0.0.1") + NO_OPERATOR),
     (NODE + "spare_control_ports = [0, 18001]\n" + ONE,
-     MEANT + "slots that are added have, at 10.0.0.1, the ports 0 18001\n" + REACHED.format("10.0.0.1")),
+     MEANT + "slots that are added have, at 10.0.0.1, the ports 0 18001\n" + REACHED.format("10.0.0.1") + BARE),
     (NODE.replace("10.0.0.1", "0.0.0.0") + ONE,
      MEANT.replace("10.0.0.1", "0.0.0.0")
-     + "warning: address is 0.0.0.0: its ports are at every interface, and a telegram counts as sent to 0.0.0.0\n"),
+     + "warning: address is 0.0.0.0: its ports are at every interface, and a telegram counts as sent to 0.0.0.0\n"
+     + BARE),
     # Beside every interface the system refuses the ports of a group.
     (NODE.replace("10.0.0.1", "0.0.0.0") + 'groups = ["239.192.0.1"]\n' + ONE,
      MEANT.replace("10.0.0.1", "0.0.0.0").replace(
          "\nslot", "\ngroup 239.192.0.1: a link joins it by `ip address add 239.192.0.1/32 dev LINK autojoin`\nslot")
      + "warning: address is 0.0.0.0: its ports are at every interface, and a telegram counts as sent to 0.0.0.0\n"
-     "warning: pd_port and groups[0] both name port 17224 at 239.192.0.1\n"
-     "warning: md_port and groups[0] both name port 17225 at 239.192.0.1\n"),
+     + NO_OPERATOR + "warning: pd_port and groups[0] both name port 17224 at 239.192.0.1\n"
+     "warning: md_port and groups[0] both name port 17225 at 239.192.0.1\n" + NO_CALLS.format(0)),
     (NODE.replace("10.0.0.1", "239.1.2.3") + ONE,
-     MEANT.replace("10.0.0.1", "239.1.2.3") + "warning: address is the group 239.1.2.3: " + GROUP),
+     MEANT.replace("10.0.0.1", "239.1.2.3") + "warning: address is the group 239.1.2.3: " + GROUP + BARE),
     (NODE.replace("10.0.0.1", "255.255.255.255") + ONE,
      MEANT.replace("10.0.0.1", "255.255.255.255")
-     + "warning: address is the broadcast 255.255.255.255: " + GROUP.replace("the group alone", "all alone")),
+     + "warning: address is the broadcast 255.255.255.255: " + GROUP.replace("the group alone", "all alone") + BARE),
     (limits(16, 256, 256, 5, 65388),
      "node 255.255.255.255: process data at port 65535, message data at port 65535\noperator at 255.255.255.255:65535\n"
      + "".join(f"slot {slot} at 255.255.255.255:65535: {', '.join(f'256 {it}' for it in KINDS)}\n"
@@ -188,7 +196,7 @@ WORDS = [
      MEANT + "dataset 1001: elements 1, bytes 1\nwarning: the file's root: the key nodes means nothing\n"
      "warning: node: the key operater_port means nothing\nwarning: slot 0: the key publisher means nothing\n"
      "warning: dataset 1001: the key name means nothing\n"
-     "warning: dataset 1001, element 0: the key count means nothing\n"),
+     "warning: dataset 1001, element 0: the key count means nothing\n" + BARE),
 ]
 
 

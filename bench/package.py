@@ -154,10 +154,22 @@ def look_at_page(folder: pathlib.Path, tool: str) -> None:
                f"{tool}: of its page {sorted(described)}, named there {sorted(named)}, of its help {sorted(helped)}")
 
 
+def look_at_installed_node(folder: pathlib.Path) -> None:
+    """Looks whether an application and an operator can call the node of a fresh install, as the unit starts it."""
+    unit = (folder / "usr/lib/systemd/system/trdpd.service").read_text()
+    words = re.findall(r"^ExecStart=/usr/bin/trdpd daemon /etc/trdpd/node.toml .*(--controls \S+)$", unit, re.MULTILINE)
+    Looks.look(words == ["--controls /run/trdpd"], f"the unit serves control sockets by {words}")
+    ran = run(["usr/bin/trdpd", "check", "etc/trdpd/node.toml", *" ".join(words).split()], folder)
+    ports = re.findall(r"^(operator|slot \d+) at (\S+?):? ?", ran.stdout, re.MULTILINE)
+    Looks.look(ran.returncode == 0 and "warning" not in ran.stdout
+               and [it[0] for it in ports] == ["operator", "slot 0", "slot 1"], f"the installed node: {ran.stdout!r}")
+
+
 def look_into(folder: pathlib.Path) -> None:
     """Uses what is unpacked."""
     modules = f"{folder}/{MODULES}"
     look_at(["usr/bin/trdpd", "check", "etc/trdpd/node.toml"], folder, "node 127.0.0.1: process data at port 17224")
+    look_at_installed_node(folder)
     for tool in ("trdp-dump", "trdp-lua", "trdp-send"):
         look_at([sys.executable, f"usr/bin/{tool}", "--help"], folder, f"usage: {tool} ", PYTHONPATH=modules)
         look_at_page(folder, tool)

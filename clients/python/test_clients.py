@@ -24,7 +24,8 @@ def main(words: list[str]) -> int:
     names = ["test_values", "test_calls", "test_answers", "test_restarts", "test_traps", "test_chance", "test_client",
              "test_tools", "test_groups", "test_filter", "test_page", "test_ports", "test_group_ports", "test_edge",
              "test_news", "test_times", "test_log", "test_daemon", "test_programs", "test_failures", "test_datasets",
-             "test_controls", "test_ends", "test_leases", "test_control_files", "test_paths", "test_made_paths",
+             "test_controls", "test_ends", "test_leases", "test_control_files", "test_reports", "test_paths",
+             "test_made_paths",
              "test_anew", "test_beside", "test_install"]
     tests = unittest.defaultTestLoader.loadTestsFromNames(names)
     ran = unittest.TextTestRunner(verbosity=1).run(tests)

@@ -215,6 +215,7 @@ operator at {folder}/{operator}
 slot 0 at {folder}/{control}: 1 publishers, 0 subscriptions, 0 requesters, 0 listeners, 0 callers, 0 repliers
 slot 1, no control port: 0 publishers, 0 subscriptions, 0 requesters, 1 listeners, 0 callers, 0 repliers
 slots that are added have, in {folder}, the files {spare}
+warning: slot 1 has no control_port: no application can use it
 """
     SPARE = f"spare_control_ports = [{CONTROL + 1}]\n"
 

@@ -1,16 +1,18 @@
 //! The wire of a node whose lines come over control sockets.
 
-ghost use Rattle.std.specs.Prelude.{◌≡◌, ◌<◌, ◌≤◌, length, IfOk, IfSome, OnErr, None};
+ghost use Rattle.std.specs.Prelude.{◌≡◌, ◌<◌, ◌≤◌, length, IfOk, IfSome, OnOk, OnErr, None, Some};
+ghost use Rattle.std.specs.Option.{option_map};
 ghost use Rattle.trdp_controls.specs.ControlWires.{GivesAtControl, GivesAtOperator};
 ghost use Rattle.trdp_controls.specs.ControlWires.{GivesOverNetwork, TakesAtControl};
 ghost use Rattle.trdp_controls.specs.ControlWires.{TakesAtOperator, TakesOverNetwork};
 ghost use Rattle.trdp_controls.specs.ControlWires.{GivesAtPort, IsUnasked, TakesAtPort, has_ended};
 
 use crate::path_calls::{
-    give_line, give_text_at, has_ended_at, nothing, take_line, take_operators_line,
+    accept_error, give_line, give_text_at, has_ended_at, missing_files, nothing,
+    operators_accept_error, take_line, take_operators_line,
 };
 use trdp_base::Place;
-use trdp_daemon::{Port, Refusal, SocketFault, Wire, WireFault, fail};
+use trdp_daemon::{Missing, Port, Refusal, SocketFault, Unread, Wire, WireFault, fail};
 use trdp_lines::{Connections, ControlPath, OperatorPath};
 
 /// The system's number of its error where there is no room for what is to go out (ENOBUFS).
@@ -33,13 +35,17 @@ pub struct ControlWire<N: Wire, C: Connections> {
     failures: u64,
     /// The latest give that was refused; None before the first.
     refusal: Option<Refusal>,
+    /// The latest take that failed; None before the first.
+    unread: Option<Unread>,
     /// Whether something came or failed at a path since the latest rest.
     heard: bool,
 }
 
 impl<N: Wire, C: Connections> ControlWire<N, C> {
     ghost use Rattle.std.specs.Prelude.{◌≡◌, ◌<◌, ◌≤◌, ◌-◌, ◌^◌, length, IfOk, IfSome, OnErr};
-    ghost use Rattle.std.specs.Prelude.{is_err, nat_lt, None};
+    ghost use Rattle.std.specs.Prelude.{is_err, nat_lt, None, Some, OnOk};
+    ghost use Rattle.std.specs.Option.{option_map};
+    ghost use Rattle.trdp_daemon.specs.declared.port.Port.TheVariants.{Control, Operator};
     ghost use Rattle.trdp_controls.specs.ControlWires.{GivesAtControl, GivesAtOperator};
     ghost use Rattle.trdp_controls.specs.ControlWires.{GivesOverNetwork, TakesAtControl};
     ghost use Rattle.trdp_controls.specs.ControlWires.{IsUnasked, TakesAtOperator};
@@ -57,6 +63,7 @@ impl<N: Wire, C: Connections> ControlWire<N, C> {
         ensures controls { result.controls ≡ controls }
         ensures failures { result.failures ≡ 0 }
         ensures refusal { result.refusal ≡ None }
+        ensures unread { result.unread ≡ None }
     {
         ControlWire {
             network,
@@ -64,6 +71,7 @@ impl<N: Wire, C: Connections> ControlWire<N, C> {
             controls,
             failures: 0,
             refusal: None,
+            unread: None,
             heard: false,
         }
     }
@@ -83,10 +91,19 @@ impl<N: Wire, C: Connections> ControlWire<N, C> {
         ensures fault { OnErr result (self.old.failures < self.new.failures) }
         ensures operator { self.new.operator ≡ self.old.operator }
         ensures controls { self.new.controls ≡ self.old.controls }
+        ensures kept { OnOk result (self.new.unread ≡ self.old.unread) }
+        ensures failed { OnErr result (option_map (λ u. u.port) self.new.unread ≡ Some port) }
     {
         match self.network.take(port, room) {
             Ok(found) => Ok(found),
-            Err(_) => nothing(&mut self.failures),
+            Err(_) => {
+                let found = nothing(&mut self.failures);
+                if found.is_err() {
+                    let fault = fault_of(self.network.unread());
+                    self.unread = Some(Unread { port, fault });
+                }
+                found
+            }
         }
     }
 
@@ -105,6 +122,8 @@ impl<N: Wire, C: Connections> ControlWire<N, C> {
         ensures fault { OnErr result (self.old.failures < self.new.failures) }
         ensures network { IsUnasked N.takings N.gives self.old.network self.new.network }
         ensures operator { self.new.operator ≡ self.old.operator }
+        ensures kept { OnOk result (self.new.unread ≡ self.old.unread) }
+        ensures failed { OnErr result (option_map (λ u. u.port) self.new.unread ≡ Some (Control slot)) }
     {
         let index = usize::from(slot);
         if index >= self.controls.len() {
@@ -112,6 +131,13 @@ impl<N: Wire, C: Connections> ControlWire<N, C> {
         }
         let control = &mut self.controls[index];
         let (found, heard) = take_line(control, room, &mut self.failures);
+        if found.is_err() {
+            let code = accept_error(&self.controls[index]);
+            self.unread = Some(Unread {
+                port: Port::Control(slot),
+                fault: SocketFault { code },
+            });
+        }
         self.note(Port::Control(slot), heard, found.is_ok());
         found
     }
@@ -127,8 +153,17 @@ impl<N: Wire, C: Connections> ControlWire<N, C> {
         ensures fault { OnErr result (self.old.failures < self.new.failures) }
         ensures network { IsUnasked N.takings N.gives self.old.network self.new.network }
         ensures controls { self.new.controls ≡ self.old.controls }
+        ensures kept { OnOk result (self.new.unread ≡ self.old.unread) }
+        ensures failed { OnErr result (option_map (λ u. u.port) self.new.unread ≡ Some Operator) }
     {
         let (found, heard) = take_operators_line(&mut self.operator, room, &mut self.failures);
+        if found.is_err() {
+            let code = operators_accept_error(&self.operator);
+            self.unread = Some(Unread {
+                port: Port::Operator,
+                fault: SocketFault { code },
+            });
+        }
         self.note(Port::Operator, heard, found.is_ok());
         found
     }
@@ -138,6 +173,7 @@ impl<N: Wire, C: Connections> ControlWire<N, C> {
     fn note(&mut self, port: Port, heard: bool, is_sound: bool)
         ensures network { IsUnasked N.takings N.gives self.old.network self.new.network }
         ensures failures { self.new.failures ≡ self.old.failures }
+        ensures unread { self.new.unread ≡ self.old.unread }
         ensures operator { self.new.operator ≡ self.old.operator }
         ensures controls { self.new.controls ≡ self.old.controls }
     {
@@ -241,6 +277,8 @@ impl<N: Wire, C: Connections> Wire for ControlWire<N, C> {
         ensures takes { TakesAtPort N.takings N.gives N.ended C.calls
             (N.news self.old.network port) self.old self.new port (length room.old) result
             room.new }
+        ensures kept { OnOk result (self.new.unread ≡ self.old.unread) }
+        ensures failed { OnErr result (option_map (λ u. u.port) self.new.unread ≡ Some port) }
     {
         match port {
             Port::Pd | Port::Md | Port::PdGroup(_) | Port::MdGroup(_) => {
@@ -309,5 +347,23 @@ impl<N: Wire, C: Connections> Wire for ControlWire<N, C> {
         ensures { result ≡ self.now.refusal }
     {
         self.refusal
+    }
+
+    fn unread(&self) -> Option<Unread>
+        ensures { result ≡ self.now.unread }
+    {
+        self.unread
+    }
+
+    fn missing(&self) -> Missing<'_> {
+        missing_files(&self.operator, &self.controls)
+    }
+}
+
+/// Why a take failed; without a number where the wire keeps no such take.
+fn fault_of(unread: Option<Unread>) -> SocketFault {
+    match unread {
+        Some(unread) => unread.fault,
+        None => SocketFault { code: None },
     }
 }

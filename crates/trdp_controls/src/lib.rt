@@ -22,6 +22,9 @@
 //! The system reports what comes at a path to the network's wire, by the number of the socket that
 //! the port would have. A take at a path of which there are no news asks nothing.
 //!
+//! If a socket's file is removed while a node runs, nobody can connect there any more, since the
+//! system tells the listener nothing of it. The wire names such files (`Wire::missing`).
+//!
 //! `trdp_program` serves a node over this wire where it is given a folder.
 //!
 //! **Proved**, for any network, folder and connections: which files are listened at, in which
@@ -40,6 +43,7 @@
 mod answers;
 mod control_wire;
 mod folder;
+mod held_path;
 mod listen_fault;
 mod opening;
 mod path;
@@ -52,9 +56,9 @@ mod teller;
 
 pub use control_wire::ControlWire;
 pub use folder::Folder;
+pub use held_path::HeldPath;
 pub use listen_fault::ListenFault;
 pub use path::socket_path;
-pub use socket_file::refused_path;
 pub use system_connections::SystemConnections;
 pub use system_folder::SystemFolder;
 pub use teller::Teller;

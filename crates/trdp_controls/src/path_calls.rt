@@ -9,7 +9,7 @@ ghost use Rattle.trdp_controls.specs.ControlWires.{TakesAtOperator, TakesAtPath,
 
 use crate::place::{number_of, place_of};
 use trdp_base::Place;
-use trdp_daemon::{WireFault, fail};
+use trdp_daemon::{Missing, WireFault, fail};
 use trdp_lines::{AcceptFault, Connections, ControlPath, LostText, OperatorPath};
 
 /// What a take that failed finds: nothing, and the failure is counted.
@@ -84,6 +84,50 @@ pub(crate) fn take_operators_line<C: Connections>(
     let taken = path.take(room);
     let heard = path.has_heard();
     (answer_of(taken, failures), heard)
+}
+
+/// The system's number of its error (errno) at the latest connection that it refused at a path; None
+/// where there is no path, and where the system gives no number.
+pub(crate) fn accept_error<C: Connections>(control: &Option<ControlPath<C>>) -> Option<i32> {
+    match control {
+        Some(path) => path.connections().accept_error(),
+        None => None,
+    }
+}
+
+/// The same at the operator's path.
+pub(crate) fn operators_accept_error<C: Connections>(
+    operator: &Option<OperatorPath<C>>,
+) -> Option<i32> {
+    match operator {
+        Some(path) => path.connections().accept_error(),
+        None => None,
+    }
+}
+
+/// Which files of the operator's path and of the slots' paths are gone.
+pub(crate) fn missing_files<'a, C: Connections>(
+    operator: &'a Option<OperatorPath<C>>,
+    controls: &'a [Option<ControlPath<C>>],
+) -> Missing<'a> {
+    let mut missing = Missing::default();
+    if let Some(path) = operator {
+        note_file(&mut missing, path.connections().missing_file());
+    }
+    for control in controls.iter() {
+        if let Some(path) = control {
+            note_file(&mut missing, path.connections().missing_file());
+        }
+    }
+    missing
+}
+
+/// Notes one more file, if it is gone.
+fn note_file<'a>(missing: &mut Missing<'a>, file: Option<&'a str>) {
+    if file.is_some() {
+        missing.first = missing.first.or(file);
+        missing.count = missing.count.saturating_add(1);
+    }
 }
 
 /// Whether the application of a slot that was at a place has ended: its connection speaks no more.

@@ -18,16 +18,6 @@ const MODE: u32 = 0o660;
 /// How many connections may wait until they are accepted: as many as the system allows.
 const BACKLOG: i32 = -1;
 
-/// Why the system refuses a path, in its own words, for example `Address already in use (os error
-/// 98)`; None where it doesn't. It listens there once, and leaves nothing behind.
-pub fn refused_path<R: Files + Net>(rt: &R, path: &str) -> Option<io::Error> {
-    match listen_at(rt, path, &None) {
-        // The file goes first: no one else takes it for one at which no process listens.
-        Ok(_listener) => fs::remove_file(rt, path).err(),
-        Err(error) => Some(error),
-    }
-}
-
 /// Listens at a path, whose file is this listener's own, and asks the system to report each
 /// connection that comes.
 ///
@@ -70,6 +60,14 @@ fn is_stale<R: Files + Net>(rt: &R, path: &str) -> bool {
     match fs::symlink_metadata(rt, path) {
         Ok(found) => found.file_type().is_socket() && is_deserted(rt, path),
         Err(_) => false,
+    }
+}
+
+/// Whether nothing is at a path.
+pub(crate) fn is_gone<R: Files>(rt: &R, path: &str) -> bool {
+    match fs::symlink_metadata(rt, path) {
+        Ok(_) => false,
+        Err(error) => error.kind() == io::ErrorKind::NotFound,
     }
 }
 

@@ -6,7 +6,7 @@ ghost use Rattle.std.specs.Io.{ReadsAtMost, WritesAtMost};
 use crate::answers::{came_of, unaccepted_of, went_of};
 use crate::listen_fault::{ListenFault, listen_fault};
 use crate::path::socket_path;
-use crate::socket_file::{listen_at, watch, watch_room};
+use crate::socket_file::{is_gone, listen_at, watch, watch_room};
 use crate::teller::Teller;
 use mio::net::{UnixListener, UnixStream};
 use std::alloc::Global;
@@ -25,15 +25,21 @@ const TRIES: u32 = 8;
 
 /// The connections of the system at a path. They report nothing.
 #[derive(Drop)]
-pub struct SystemConnections {
+pub struct SystemConnections<'a, R: Files + Net> {
+    /// The system, which has the files.
+    rt: &'a R,
     /// The number that is the name of the path's file.
     file_number: u16,
+    /// The path of that file.
+    path: String,
     /// The socket at which they come in.
     listener: UnixListener,
     /// Those that are open; None is a free seat.
     seats: [Option<Seated>; OPEN_MAX],
     /// Where the system reports that one came, or can go on; None where it doesn't.
     teller: Option<Teller>,
+    /// The system's number of its error at the latest accept that failed; None before the first.
+    accept_error: Option<i32>,
 }
 
 /// A connection that is open.
@@ -47,7 +53,7 @@ struct Seated {
     is_behind: bool,
 }
 
-impl SystemConnections {
+impl<'a, R: Files + Net> SystemConnections<'a, R> {
     /// Listens at the file of that number in a folder. Where there is a teller, the system reports
     /// when a connection, bytes, room for more or an end comes.
     ///
@@ -55,22 +61,25 @@ impl SystemConnections {
     /// `Refused` where a process listens there, where something else than the file of a socket is
     /// there, which is left as it is, or where the path has more than 107 bytes. `Refused` too
     /// where the system refuses it otherwise; `OutOfMemory` where an allocation for it fails.
-    pub fn listen<R: Files + Net>(
-        rt: &R,
+    pub fn listen(
+        rt: &'a R,
         alloc: Global,
         folder: &str,
         file_number: u16,
         teller: Option<Teller>,
-    ) -> Result<SystemConnections, ListenFault>
+    ) -> Result<SystemConnections<'a, R>, ListenFault>
         ensures { IfOk result (λ connections. connections.file_number ≡ file_number) }
     {
         let path = socket_path(alloc, folder, file_number)?;
         match listen_at(rt, path.as_str(), &teller) {
             Ok(listener) => Ok(SystemConnections {
+                rt,
                 file_number,
+                path,
                 listener,
                 seats: array::from_fn(|_| None),
                 teller,
+                accept_error: None,
             }),
             Err(error) => Err(listen_fault(error)),
         }
@@ -93,7 +102,8 @@ impl SystemConnections {
     {
         for seat in self.seats.iter_mut() {
             if seat.is_none() {
-                if watch(&self.teller, &mut stream).is_err() {
+                if let Err(error) = watch(&self.teller, &mut stream) {
+                    self.accept_error = error.raw_os_error();
                     return Accepted::Failed;
                 }
                 *seat = Some(Seated {
@@ -127,7 +137,7 @@ impl Seated {
     }
 }
 
-impl Connections for SystemConnections {
+impl<'a, R: Files + Net> Connections for SystemConnections<'a, R> {
     ghost use Rattle.std.specs.Prelude.{None};
 
     ghost calls = { λ _. None };
@@ -137,7 +147,13 @@ impl Connections for SystemConnections {
     fn accept(&mut self, number: u64) -> Accepted {
         match self.listener.accept() {
             Ok((stream, _)) => self.keep(number, stream),
-            Err(error) => unaccepted_of(&error),
+            Err(error) => {
+                let accepted = unaccepted_of(&error);
+                if accepted == Accepted::Failed {
+                    self.accept_error = error.raw_os_error();
+                }
+                accepted
+            }
         }
     }
 
@@ -165,6 +181,19 @@ impl Connections for SystemConnections {
             if is_of(seat, number) {
                 *seat = None;
             }
+        }
+    }
+
+    fn accept_error(&self) -> Option<i32> {
+        self.accept_error
+    }
+
+    fn missing_file(&self) -> Option<&str> {
+        let path = self.path.as_str();
+        if is_gone(self.rt, path) {
+            Some(path)
+        } else {
+            None
         }
     }
 }

@@ -57,12 +57,16 @@ impl<'a, R: Files + Net> SystemFolder<'a, R> {
     }
 }
 
-impl<'a, R: Files + Net> Folder<SystemConnections> for SystemFolder<'a, R> {
+impl<'a, R: Files + Net> Folder<SystemConnections<'a, R>> for SystemFolder<'a, R> {
     ghost use Rattle.std.specs.Prelude.{None};
 
     ghost listenings = { λ _. None };
 
-    fn listen(&mut self, number: u16, socket: usize) -> Result<SystemConnections, ListenFault> {
+    fn listen(
+        &mut self,
+        number: u16,
+        socket: usize,
+    ) -> Result<SystemConnections<'a, R>, ListenFault> {
         match self.teller(socket) {
             Ok(teller) => SystemConnections::listen(self.rt, self.alloc, self.path, number, teller),
             Err(error) => Err(listen_fault(error)),

@@ -1,7 +1,8 @@
 -- The sockets of which the resting wire keeps news.
--- For `RestingWire::over` and `note_events`.
+-- For `RestingWire::over`, `RestingWire::take_news` and `note_events`.
 -- By induction on the list.
-use Rattle.std.proofs.Common.{◌≡◌, ℕ, zero, suc, Bool, true, List, [], ◌∷◌, ◌++◌, map}
+use Rattle.std.proofs.Common.{◌≡◌, ℕ, zero, suc, Bool, true, false, List, [], ◌∷◌, ◌++◌, map}
+use Rattle.std.proofs.Common.{◌||◌}
 use Rattle.std.proofs.Common.{refl, sym, ◌∙◌, ap, replicate}
 use Rattle.std.specs.Prelude.{slice_set}
 use Rattle.std.proofs.lemmas.List.{map-append}
@@ -12,6 +13,10 @@ pub each_there : (count socket : ℕ) → has_news (replicate count true) socket
 each_there zero socket = refl
 each_there (suc count) zero = refl
 each_there (suc count) (suc socket) = each_there count socket
+
+pub or_false : (b : Bool) → b ≡ (b || false)
+or_false true = refl
+or_false false = refl
 
 -- one more is noted after the others
 noted_last : (told : List ℕ) (socket : ℕ) (news : List Bool)

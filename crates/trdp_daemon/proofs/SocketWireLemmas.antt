@@ -11,6 +11,7 @@ use Rattle.trdp_daemon.specs.declared.fault.WireFault.{WireFault}
 use Rattle.trdp_daemon.specs.declared.port.Port.{Port}
 use Rattle.trdp_daemon.specs.declared.socket_fault.SocketFault.{SocketFault}
 use Rattle.trdp_daemon.specs.declared.refusal.Refusal.{Refusal}
+use Rattle.trdp_daemon.specs.declared.unread.Unread.{Unread}
 use Rattle.trdp_daemon.specs.Counting.{has_failed}
 use Rattle.trdp_daemon.specs.MemoryWires.{failure_after, one_more_if}
 use Rattle.trdp_daemon.specs.Sockets.{SocketCall, TakesFrom, GivesFrom, socket_of, fault_of}
@@ -28,35 +29,41 @@ asked_at groups s room port old new a b at is told =
 
 pub took_nothing : {s : ℕ} {old new : Option (List SocketCall)}
     (groups : List ℕ) (port : Port) (room : List ℕ)
-    (got : Result (Option (Place × ℕ)) SocketFault) (n : ℕ)
+    (got : Result (Option (Place × ℕ)) SocketFault) (n : ℕ) (unread : Option Unread)
     → s ≡ socket_of groups port → got ≡ Ok None
     → TellsMore old new (TakesFrom s (length room) (arrived_in got room) ∷ [])
-    → TakesAtSocket groups old new port room (Ok None) n n false
+    → TakesAtSocket groups old new port room (Ok None) n n false unread unread
 unfolding handed_in one_more_if
-took_nothing groups port room got n at is told = record {
+took_nothing groups port room got n unread at is told = record {
   arrived = Nothing;
   asked = asked_at groups _ _ _ _ _ _ _ at (ap (λ r. arrived_in r room) is) told;
   answer = refl;
   counted = refl;
   noted = refl;
+  fault = None;
+  failed = refl;
+  kept = refl;
 }
 
 pub took_answer : {s : ℕ} {old new : Option (List SocketCall)}
     (groups : List ℕ) (port : Port) (room bytes : List ℕ)
     (got : Result (Option (Place × ℕ)) SocketFault)
-    (from : Place) (len n : ℕ)
+    (from : Place) (len n : ℕ) (unread : Option Unread)
     → s ≡ socket_of groups port → got ≡ Ok (Some (from, len)) → bytes ≡ take len room
     → is_answer port bytes ≡ true
     → TellsMore old new (TakesFrom s (length room) (arrived_in got room) ∷ [])
-    → TakesAtSocket groups old new port room (Ok None) n n true
+    → TakesAtSocket groups old new port room (Ok None) n n true unread unread
 unfolding handed_in one_more_if
-took_answer groups port room bytes got from len n at is front answers told = record {
+took_answer groups port room bytes got from len n unread at is front answers told = record {
   arrived = Came from bytes;
   asked = asked_at groups _ _ _ _ _ _ _ at
       (ap (λ r. arrived_in r room) is ∙ ap (λ l. Came from l) (sym front)) told;
   answer = by_answer (is_answer port bytes) answers;
   counted = refl;
   noted = refl;
+  fault = None;
+  failed = refl;
+  kept = refl;
 }
   where
     by_answer : (b : Bool) → b ≡ true → Nothing ≡ (if b then Nothing else Came from bytes)
@@ -66,19 +73,22 @@ took_answer groups port room bytes got from len n at is front answers told = rec
 pub took_datagram : {s : ℕ} {old new : Option (List SocketCall)}
     (groups : List ℕ) (port : Port) (room bytes : List ℕ)
     (got : Result (Option (Place × ℕ)) SocketFault)
-    (from : Place) (len n : ℕ)
+    (from : Place) (len n : ℕ) (unread : Option Unread)
     → s ≡ socket_of groups port → got ≡ Ok (Some (from, len)) → bytes ≡ take len room
     → is_answer port bytes ≡ false
     → TellsMore old new (TakesFrom s (length room) (arrived_in got room) ∷ [])
-    → TakesAtSocket groups old new port room (Ok (Some (from, len))) n n true
+    → TakesAtSocket groups old new port room (Ok (Some (from, len))) n n true unread unread
 unfolding handed_in one_more_if
-took_datagram groups port room bytes got from len n at is front answers told = record {
+took_datagram groups port room bytes got from len n unread at is front answers told = record {
   arrived = Came from bytes;
   asked = asked_at groups _ _ _ _ _ _ _ at
       (ap (λ r. arrived_in r room) is ∙ ap (λ l. Came from l) (sym front)) told;
   answer = ap (λ l. Came from l) (sym front) ∙ by_answer (is_answer port bytes) answers;
   counted = refl;
   noted = refl;
+  fault = None;
+  failed = refl;
+  kept = refl;
 }
   where
     by_answer : (b : Bool) → b ≡ false → Came from bytes ≡ (if b then Nothing else Came from bytes)
@@ -89,19 +99,23 @@ took_datagram groups port room bytes got from len n at is front answers told = r
 pub took_failure : {s : ℕ} {old new : Option (List SocketCall)}
     (groups : List ℕ) (port : Port) (room : List ℕ) (got : Result (Option (Place × ℕ)) SocketFault)
     (fault : SocketFault) (counted : Result (Unit {0}) WireFault)
-    (result : Result (Option (Place × ℕ)) WireFault) (n m : ℕ)
+    (result : Result (Option (Place × ℕ)) WireFault) (n m : ℕ) (unread : Option Unread)
     → s ≡ socket_of groups port → got ≡ Err fault
     → arrived_in result room ≡ (if is_err counted then Failed else Nothing)
     → is_err counted ≡ nat_lt n (2 ^ 64 - 1) → m ≡ one_more_if (is_err counted) n
     → TellsMore old new (TakesFrom s (length room) (arrived_in got room) ∷ [])
-    → TakesAtSocket groups old new port room result n m true
+    → TakesAtSocket groups old new port room result n m true unread
+    (Some (record { port = port; fault = fault }))
 unfolding handed_in failure_after
-took_failure groups port room got fault counted result n m at is same fails count told = record {
+took_failure groups port room got fault counted result n m unread at is same fails count told = record {
   arrived = Failed;
   asked = asked_at groups _ _ _ _ _ _ _ at (ap (λ r. arrived_in r room) is) told;
   answer = same ∙ ap (λ b. if b then Failed else Nothing) fails;
   counted = count ∙ ap (λ b. one_more_if b n) (sym (by_failed (is_err counted) same));
   noted = refl;
+  fault = Some fault;
+  failed = refl;
+  kept = refl;
 }
   where
     by_failed : (b : Bool) → arrived_in result room ≡ (if b then Failed else Nothing)

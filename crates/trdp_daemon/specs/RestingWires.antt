@@ -77,8 +77,13 @@ pub record TakesAtNews {S C : Type 0} (calls_of : S → Option (List SocketCall)
   pub heard : Bool
   pub takes : TakesAtSocket old.wire.groups (calls_of old.wire.sockets)
       (calls_of new.wire.sockets) port room result old.wire.failures new.wire.failures heard
+      old.wire.unread new.wire.unread
   pub is : new ≡ record old {
-    wire = record old.wire { sockets = new.wire.sockets; failures = new.wire.failures };
+    wire = record old.wire {
+      sockets = new.wire.sockets;
+      failures = new.wire.failures;
+      unread = new.wire.unread;
+    };
     heard = old.heard || heard;
     news = news_after (heard || old.asks_each) (socket_of old.wire.groups port) old.news;
   }
@@ -135,3 +140,4 @@ pub record IsFresh {S C : Type 0} (clock : C) (few : Bool) (wire : RestingWire S
   pub rested : wire.rested ≡ None
   pub failures : wire.wire.failures ≡ 0
   pub refusal : wire.wire.refusal ≡ None
+  pub unread : wire.wire.unread ≡ None

@@ -10,9 +10,10 @@ use Rattle.trdp_daemon.specs.declared.port.Port.TheVariants.{Pd, Md, PdGroup, Md
 use Rattle.trdp_daemon.specs.declared.port.Port.TheVariants.{Operator, Control}
 use Rattle.trdp_daemon.specs.declared.refusal.Refusal.{Refusal}
 use Rattle.trdp_daemon.specs.declared.socket_fault.SocketFault.{SocketFault}
+use Rattle.trdp_daemon.specs.declared.unread.Unread.{Unread}
 use Rattle.trdp_daemon.specs.Counting.{has_failed}
 use Rattle.trdp_daemon.specs.MemoryWires.{failure_after, one_more_if}
-use Rattle.trdp_daemon.specs.Refusals.{refusal_after}
+use Rattle.trdp_daemon.specs.Refusals.{refusal_after, unread_after}
 use Rattle.trdp_daemon.specs.Sockets.{SocketCall, TakesFrom, GivesFrom, socket_of}
 use Rattle.trdp_daemon.specs.Told.{TellsMore, Arrived, Failed, Nothing, Came, arrived_in}
 
@@ -49,15 +50,19 @@ is_heard Nothing = false
 is_heard (Came from bytes) = true
 
 -- one take was made, at the port's socket among those of these groups and with the whole room, and
--- it answers what is handed in of what arrived there; whether something was heard
+-- it answers what is handed in of what arrived there; whether something was heard. The latest
+-- failure is then this one, if it failed
 pub record TakesAtSocket (groups : List ℕ) (old new : Option (List SocketCall)) (port : Port)
     (room : List ℕ) (result : Result (Option (Place × ℕ)) WireFault) (failures failures_then : ℕ)
-    (heard : Bool) : Type 0 where
+    (heard : Bool) (unread unread_then : Option Unread) : Type 0 where
   pub arrived : Arrived
   pub asked : TellsMore old new (TakesFrom (socket_of groups port) (length room) arrived ∷ [])
   pub answer : arrived_in result room ≡ handed_in failures port arrived
   pub counted : failures_then ≡ one_more_if (has_failed (arrived_in result room)) failures
   pub noted : heard ≡ is_heard arrived
+  pub fault : Option SocketFault
+  pub failed : is_some fault ≡ has_failed arrived
+  pub kept : unread_then ≡ unread_after port fault unread
 
 -- one give was made, from the port's socket, of these bytes to that place. It answers whether that
 -- was refused, unless the count of failures is at its last value; the latest refusal is then this

@@ -30,7 +30,7 @@
 //! **Proved**, for each wire, clock and sockets that report their calls: what a turn takes, offers
 //! and counts, and how long a rest the daemon notes as asked for. Proved too: which sockets are
 //! bound and watched, where and in which order; which datagrams a wire hands in, when it fails, and
-//! which refusal it keeps; and which numbers [`RunClock`] makes of the system's times. Of
+//! which refusal and which failed take it keeps; and which numbers [`RunClock`] makes of the system's times. Of
 //! [`RestingWire`]: when and how long it waits or sleeps, and at which ports it asks.
 //!
 //! **Tested**: that a wire is handed the rests that the daemon notes (one line of `Link::rest`),
@@ -59,6 +59,7 @@ mod lists;
 mod memory_clock;
 mod memory_sockets;
 mod memory_wire;
+mod missing;
 mod news;
 mod offers;
 mod opening;
@@ -79,6 +80,7 @@ mod system_sockets;
 mod telling;
 mod totals;
 mod udp_wire;
+mod unread;
 mod wire;
 
 pub use bind_fault::BindFault;
@@ -93,6 +95,7 @@ pub use laws::{
 pub use memory_clock::MemoryClock;
 pub use memory_sockets::{MemorySockets, SocketRow};
 pub use memory_wire::MemoryWire;
+pub use missing::Missing;
 pub use offers::Offers;
 pub use port::Port;
 pub use ports::control_number;
@@ -105,4 +108,5 @@ pub use sockets::Sockets;
 pub use system_sockets::SystemSockets;
 pub use totals::Totals;
 pub use udp_wire::UdpWire;
+pub use unread::Unread;
 pub use wire::Wire;

@@ -26,6 +26,7 @@ impl<'a, R: Net + time::Clock> RestingWire<SystemSockets<'a, R>, RunClock<'a, R>
     ) -> Result<RestingWire<SystemSockets<'a, R>, RunClock<'a, R>>, BindFault>
         ensures failures { IfOk result (λ wire. wire.wire.failures ≡ 0) }
         ensures refusal { IfOk result (λ wire. wire.wire.refusal ≡ None) }
+        ensures unread { IfOk result (λ wire. wire.wire.unread ≡ None) }
     {
         match RestingWire::open(alloc, SystemSockets::new(rt), RunClock::new(rt), config) {
             Ok(wire) => Ok(wire),
@@ -45,6 +46,7 @@ impl<'a, R: Net + time::Clock> RestingWire<SystemSockets<'a, R>, RunClock<'a, R>
     ) -> Result<RestingWire<SystemSockets<'a, R>, RunClock<'a, R>>, BindFault>
         ensures failures { IfOk result (λ wire. wire.wire.failures ≡ 0) }
         ensures refusal { IfOk result (λ wire. wire.wire.refusal ≡ None) }
+        ensures unread { IfOk result (λ wire. wire.wire.unread ≡ None) }
     {
         match RestingWire::open_network(alloc, SystemSockets::new(rt), RunClock::new(rt), config) {
             Ok(wire) => Ok(wire),

@@ -20,6 +20,7 @@ use crate::rest_step::{RestStep, is_breathless, rest_left};
 use crate::sockets::Sockets;
 use crate::system_sockets::SOCKETS_MAX;
 use crate::udp_wire::UdpWire;
+use crate::unread::Unread;
 use crate::wire::Wire;
 use std::alloc::Global;
 use trdp_base::Place;
@@ -319,6 +320,7 @@ impl<S: Sockets, C: Clock + Drop> Wire for RestingWire<S, C> {
             self.old.wire.refusal self.new.wire.refusal }
         ensures kept { self.new ≡ record self.old { wire = self.new.wire } }
         ensures groups { self.new.wire.groups ≡ self.old.wire.groups }
+        ensures unread { self.new.wire.unread ≡ self.old.wire.unread }
     {
         self.wire.give(port, to, bytes)
     }
@@ -372,5 +374,11 @@ impl<S: Sockets, C: Clock + Drop> Wire for RestingWire<S, C> {
         ensures { result ≡ self.now.wire.refusal }
     {
         self.wire.refusal()
+    }
+
+    fn unread(&self) -> Option<Unread>
+        ensures { result ≡ self.now.wire.unread }
+    {
+        self.wire.unread()
     }
 }

@@ -15,7 +15,7 @@ pub(crate) const NO_WAY: SocketFault = SocketFault {
 #[derive(Clone, Copy, Debug, PartialEq, Eq)]
 pub struct SocketFault {
     /// The system's number of its error (errno); None where it has none, for example where only a
-    /// part of the datagram was sent, or no socket has the number that was called.
+    /// part of a datagram was sent, or no socket has the number that was called.
     pub code: Option<i32>,
 }
 

@@ -14,6 +14,7 @@ use crate::port::Port;
 use crate::refusal::Refusal;
 use crate::sockets::Sockets;
 use crate::system_sockets::SystemSockets;
+use crate::unread::Unread;
 use crate::wire::Wire;
 use std::net::Net;
 use trdp_base::Place;
@@ -38,6 +39,8 @@ pub struct UdpWire<S> {
     pub(crate) failures: u64,
     /// The latest give that was refused; None before the first.
     pub(crate) refusal: Option<Refusal>,
+    /// The latest take that failed; None before the first.
+    pub(crate) unread: Option<Unread>,
 }
 
 impl<'a, R: Net> UdpWire<SystemSockets<'a, R>> {
@@ -51,6 +54,7 @@ impl<'a, R: Net> UdpWire<SystemSockets<'a, R>> {
     pub fn bind(rt: &'a R, config: &NodeConfig) -> Result<UdpWire<SystemSockets<'a, R>>, BindFault>
         ensures failures { IfOk result (λ wire. wire.failures ≡ 0) }
         ensures refusal { IfOk result (λ wire. wire.refusal ≡ None) }
+        ensures unread { IfOk result (λ wire. wire.unread ≡ None) }
     {
         match UdpWire::open(SystemSockets::new(rt), config) {
             Ok(wire) => Ok(wire),
@@ -70,6 +74,7 @@ impl<'a, R: Net> UdpWire<SystemSockets<'a, R>> {
     ) -> Result<UdpWire<SystemSockets<'a, R>>, BindFault>
         ensures failures { IfOk result (λ wire. wire.failures ≡ 0) }
         ensures refusal { IfOk result (λ wire. wire.refusal ≡ None) }
+        ensures unread { IfOk result (λ wire. wire.unread ≡ None) }
     {
         match UdpWire::open_network(SystemSockets::new(rt), config) {
             Ok(wire) => Ok(wire),
@@ -93,6 +98,7 @@ impl<S: Sockets> UdpWire<S> {
         ensures groups { IfOk result (λ wire. wire.groups ≡ config.now.groups) }
         ensures failures { IfOk result (λ wire. wire.failures ≡ 0) }
         ensures refusal { IfOk result (λ wire. wire.refusal ≡ None) }
+        ensures unread { IfOk result (λ wire. wire.unread ≡ None) }
     {
         match bind_ports(&mut sockets, config) {
             Ok(()) => Ok(UdpWire::over(sockets, Groups::of(config))),
@@ -113,6 +119,7 @@ impl<S: Sockets> UdpWire<S> {
         ensures groups { IfOk result (λ wire. wire.groups ≡ config.now.groups) }
         ensures failures { IfOk result (λ wire. wire.failures ≡ 0) }
         ensures refusal { IfOk result (λ wire. wire.refusal ≡ None) }
+        ensures unread { IfOk result (λ wire. wire.unread ≡ None) }
     {
         match bind_network(&mut sockets, config) {
             Ok(()) => Ok(UdpWire::over(sockets, Groups::of(config))),
@@ -133,12 +140,14 @@ impl<S: Sockets> UdpWire<S> {
         ensures groups { result.groups ≡ groups }
         ensures failures { result.failures ≡ 0 }
         ensures refusal { result.refusal ≡ None }
+        ensures unread { result.unread ≡ None }
     {
         UdpWire {
             sockets,
             groups,
             failures: 0,
             refusal: None,
+            unread: None,
         }
     }
 
@@ -153,7 +162,13 @@ impl<S: Sockets> UdpWire<S> {
         ensures fault { OnErr result.0 (self.old.failures < self.new.failures) }
         ensures takes { TakesAtSocket self.old.groups
             (S.calls self.old.sockets) (S.calls self.new.sockets)
-            port room.new result.0 self.old.failures self.new.failures result.1 }
+            port room.new result.0 self.old.failures self.new.failures result.1
+            self.old.unread self.new.unread }
+        ensures kept { self.new ≡ record self.old {
+          sockets = self.new.sockets;
+          failures = self.new.failures;
+          unread = self.new.unread;
+        } }
         ensures groups { self.new.groups ≡ self.old.groups }
         ensures refusal { self.new.refusal ≡ self.old.refusal }
     {
@@ -166,10 +181,13 @@ impl<S: Sockets> UdpWire<S> {
                 }
                 (Ok(Some((from, len))), true)
             }
-            Err(_) => match fail(&mut self.failures) {
-                Ok(()) => (Ok(None), true),
-                Err(fault) => (Err(fault), true),
-            },
+            Err(fault) => {
+                self.unread = Some(Unread { port, fault });
+                match fail(&mut self.failures) {
+                    Ok(()) => (Ok(None), true),
+                    Err(fault) => (Err(fault), true),
+                }
+            }
         }
     }
 }
@@ -190,7 +208,8 @@ impl<S: Sockets> Wire for UdpWire<S> {
         ensures fault { OnErr result (self.old.failures < self.new.failures) }
         ensures takes { (heard : Bool) × TakesAtSocket self.old.groups
             (S.calls self.old.sockets) (S.calls self.new.sockets)
-            port room.new result self.old.failures self.new.failures heard }
+            port room.new result self.old.failures self.new.failures heard
+            self.old.unread self.new.unread }
         ensures groups { self.new.groups ≡ self.old.groups }
         ensures refusal { self.new.refusal ≡ self.old.refusal }
     {
@@ -205,6 +224,7 @@ impl<S: Sockets> Wire for UdpWire<S> {
             port to bytes.now result self.old.failures self.new.failures
             self.old.refusal self.new.refusal }
         ensures groups { self.new.groups ≡ self.old.groups }
+        ensures unread { self.new.unread ≡ self.old.unread }
     {
         match self.sockets.give(self.groups.socket_of(port), to, bytes) {
             Ok(()) => Ok(()),
@@ -235,6 +255,12 @@ impl<S: Sockets> Wire for UdpWire<S> {
         ensures { result ≡ self.now.refusal }
     {
         self.refusal
+    }
+
+    fn unread(&self) -> Option<Unread>
+        ensures { result ≡ self.now.unread }
+    {
+        self.unread
     }
 }
 

@@ -4,8 +4,10 @@ ghost use Rattle.std.specs.Prelude.{◌≡◌, ◌<◌, ◌≤◌, [], ◌∷◌
 ghost use Rattle.trdp_daemon.specs.Told.{TellsMore, give_of, taking_of};
 
 use crate::fault::WireFault;
+use crate::missing::Missing;
 use crate::port::Port;
 use crate::refusal::Refusal;
+use crate::unread::Unread;
 use trdp_base::Place;
 
 /// A wire at the ports of a node. A take and a give never wait; only a rest may. It may report
@@ -89,5 +91,17 @@ pub trait Wire {
     /// The latest give that was refused; None before the first, and where this wire keeps none.
     fn refusal(&self) -> Option<Refusal> {
         None
+    }
+
+    /// The latest take at which the wire failed; None before the first, and where this wire keeps
+    /// none.
+    fn unread(&self) -> Option<Unread> {
+        None
+    }
+
+    /// The files of its ports that are gone, so that nobody can connect there any more; none where
+    /// its ports have no files.
+    fn missing(&self) -> Missing<'_> {
+        Missing::default()
     }
 }

@@ -78,6 +78,18 @@ pub trait Connections {
     fn close(&mut self, number: u64)
         ensures told { TellsMore (calls self.old) (calls self.new) (Closes number ∷ []) }
         ensures kept { file_number self.new ≡ file_number self.old };
+
+    /// The system's number of its error (errno) at the latest accept that failed; None before the
+    /// first, and where these keep none.
+    fn accept_error(&self) -> Option<i32> {
+        None
+    }
+
+    /// The path's file, if it is gone: then nobody can connect any more. None where it is there,
+    /// and where these know no file.
+    fn missing_file(&self) -> Option<&str> {
+        None
+    }
 }
 
 impl Came {

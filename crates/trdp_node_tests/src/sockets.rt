@@ -244,6 +244,7 @@ fn is_wait(row: Option<&SocketRow>, millis: u64, sockets: &[usize]) -> bool {
 /// A wire that doesn't rest binds its sockets, and receives and sends at them.
 fn works(rt: &(impl Abort + AllocGlobal), wire: &mut UdpWire<MemorySockets>) {
     uses(rt, wire);
+    same(rt, "failed takes", wire.unread(), None);
     wire.rest(1_000_000);
     let rows = wire.sockets().rows();
     same(rt, "calls", rows.len(), 12);

@@ -9,8 +9,8 @@ ghost use Rattle.trdp_program.specs.Faults.{TellsText};
 ghost use Rattle.trdp_program.specs.Serving.{lease_of};
 
 use crate::faults::{SERVE_FAULT_STATUS, ServeFault};
-use crate::losses::Losses;
 use crate::options::ServiceOptions;
+use crate::reports::Reports;
 use crate::stream::Stream;
 use crate::told::tell_fault;
 use crate::totals_log::TotalsLog;
@@ -132,20 +132,20 @@ pub fn attend_lines<L: Wire, C: trdp_daemon::Clock, W: Stream, E: Write>(
     ensures losses { TellsText (E.contents errors.old) (E.contents errors.new) }
 {
     let mut log = TotalsLog::new(step);
-    let mut losses = Losses::new();
+    let mut reports = Reports::new();
     for _line in 0..lines {
-        let reading = attend_until(daemon, log.due(), &mut losses, errors);
+        let reading = attend_until(daemon, log.due(), &mut reports, errors);
         log.write(alloc, reading, daemon.totals(), writer)?;
     }
     Ok(())
 }
 
-/// Attends to a node until a turn begins at the reading `due` of the clock or later, and looks
-/// each second at what was lost. Returns the reading of the last turn.
+/// Attends to a node until a turn begins at the reading `due` of the clock or later, and reports
+/// each second what went wrong. Returns the reading of the last turn.
 fn attend_until<L: Wire, C: trdp_daemon::Clock, E: Write>(
     daemon: &mut Daemon<L, C>,
     due: u64,
-    losses: &mut Losses,
+    reports: &mut Reports,
     errors: &mut E,
 ) -> u64
     ensures served { (config : ConfigModel) (lease : Option ℕ) (wire : L) (clock : C) (n : ℕ)
@@ -156,8 +156,8 @@ fn attend_until<L: Wire, C: trdp_daemon::Clock, E: Write>(
 {
     let mut reading = 0;
     for _look in 0..u64::MAX {
-        reading = daemon.attend(due.min(losses.due()));
-        losses.look(daemon, reading, errors);
+        reading = daemon.attend(due.min(reports.due()));
+        reports.look(daemon, reading, errors);
         if due <= reading {
             return reading;
         }

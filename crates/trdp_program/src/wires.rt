@@ -59,8 +59,8 @@ pub(crate) fn bind_resting<'a, H: Net + Clock + AllocGlobal>(
 pub(crate) fn bind_controls<'a, H: Files + Net + AllocGlobal>(
     rt: &'a H,
     config: &NodeConfig,
-    folder: &str,
-) -> Result<ControlWire<Udp<'a, H>, SystemConnections>, ServeFault>
+    folder: &'a str,
+) -> Result<ControlWire<Udp<'a, H>, SystemConnections<'a, H>>, ServeFault>
     ensures { IfErr result (λ fault. fault ≢ ServeFault.Write) }
 {
     match UdpWire::bind_network(rt, config) {
@@ -76,8 +76,8 @@ pub(crate) fn bind_controls<'a, H: Files + Net + AllocGlobal>(
 pub(crate) fn bind_resting_controls<'a, H: Files + Net + Clock + AllocGlobal>(
     rt: &'a H,
     config: &NodeConfig,
-    folder: &str,
-) -> Result<ControlWire<Resting<'a, H>, SystemConnections>, ServeFault>
+    folder: &'a str,
+) -> Result<ControlWire<Resting<'a, H>, SystemConnections<'a, H>>, ServeFault>
     ensures { IfErr result (λ fault. fault ≢ ServeFault.Write) }
 {
     match RestingWire::bind_network(rt, rt.alloc(), config) {
@@ -93,13 +93,13 @@ pub(crate) fn bind_resting_controls<'a, H: Files + Net + Clock + AllocGlobal>(
 ///
 /// # Errors
 /// As [`bind_controls`].
-fn listen<H: Files + Net + AllocGlobal, N: Wire + Drop>(
-    rt: &H,
+fn listen<'a, H: Files + Net + AllocGlobal, N: Wire + Drop>(
+    rt: &'a H,
     config: &NodeConfig,
-    folder: &str,
+    folder: &'a str,
     network: N,
     registry: Option<Registry>,
-) -> Result<ControlWire<N, SystemConnections>, ServeFault>
+) -> Result<ControlWire<N, SystemConnections<'a, H>>, ServeFault>
     ensures { IfErr result (λ fault. fault ≢ ServeFault.Write) }
 {
     let mut folder = SystemFolder::new(rt, rt.alloc(), folder, registry);

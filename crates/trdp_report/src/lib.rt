@@ -16,6 +16,7 @@
 #![tactic(auto)]
 
 mod groups;
+mod held;
 mod meaning;
 mod ports;
 mod refused;

@@ -24,10 +24,12 @@ pub(crate) fn push_warnings(
     if folder.is_none() && has_control_port(config) {
         push_control_address(text, config)?;
     }
+    push_no_operator(text, config)?;
     let ports = ports_of(alloc, config, folder)?;
     push_collisions(text, &ports)?;
     push_long_paths(alloc, text, &ports)?;
     for slot in 0..config.slots() {
+        push_slot_without_port(text, config, slot)?;
         push_empty_slot(text, config, slot)?;
     }
     push_long_datasets(text, config)
@@ -135,6 +137,39 @@ fn push_long_paths(
         }
     }
     Ok(())
+}
+
+/// Adds a warning if the node has no port for the operator's lines.
+///
+/// # Errors
+/// `AllocError` where an allocation fails.
+fn push_no_operator(text: &mut String, config: &NodeConfig) -> Result<(), AllocError> {
+    if config.operator_port() != 0 {
+        return Ok(());
+    }
+    writeln!(
+        text,
+        "warning: the node has no operator_port: nobody can make it lead a redundancy group, set \
+         its topology counters or add a slot"
+    )
+}
+
+/// Adds a warning if a slot has no control port.
+///
+/// # Errors
+/// `AllocError` where an allocation fails.
+fn push_slot_without_port(
+    text: &mut String,
+    config: &NodeConfig,
+    slot: usize,
+) -> Result<(), AllocError> {
+    match config.control_port(slot) {
+        Some(0) => writeln!(
+            text,
+            "warning: slot {slot} has no control_port: no application can use it"
+        ),
+        _ => Ok(()),
+    }
 }
 
 /// Adds a warning where a slot can hold nothing.

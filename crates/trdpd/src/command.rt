@@ -2,6 +2,7 @@
 //! `trdpd daemon CONFIG`.
 
 use crate::version::VERSION;
+use clap::builder::ValueParser;
 use clap::{Arg, ArgAction, ArgMatches, Command, Error, value_parser};
 use std::alloc::{AllocError, Global};
 use trdp_program::ServiceOptions;
@@ -50,7 +51,7 @@ pub enum Task<'a> {
 /// `check`, `run`, `serve` or `daemon` with a configuration file, and these:
 /// - `serve` has `--turns` with a number of 0 to 4,294,967,295, and `daemon` may have `--totals`
 ///   with such a number;
-/// - all but `run` may have `--controls` with a folder;
+/// - all but `run` may have `--controls` with a folder, whose name is not empty;
 /// - `serve` and `daemon` may have `--lease` with a number of 1 to 86,400.
 ///
 /// # Errors
@@ -173,6 +174,7 @@ fn controls<'a>(alloc: Global) -> Arg<'a> {
         .long("controls")
         .value_name("FOLDER")
         .action(ArgAction::Set)
+        .value_parser(ValueParser::NonEmptyString)
         .help("The folder of the control sockets, in place of UDP control ports")
 }
 

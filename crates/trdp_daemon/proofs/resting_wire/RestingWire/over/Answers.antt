@@ -14,4 +14,5 @@ returns-clause-fresh g c = record {
   rested = refl;
   failures = c.over.ensures.failures;
   refusal = c.over.ensures.refusal;
+  unread = c.over.ensures.unread;
 }
