@@ -49,8 +49,8 @@ class Reports(AtPaths):
         return errors.read_text()
 
     def test_a_bind_fault_says_that_descriptors_ran_out(self) -> None:
-        # The daemon needs 9 descriptors over UDP: the streams, five ports, and one to wait at these. With control sockets
-        # it needs 13.
+        # Over UDP the daemon needs 9 descriptors: the streams, five ports, and one to wait at these. With control
+        # sockets it needs 13.
         for words, needed in (((), 9), (("--controls", self.folder), 13)):
             for descriptors in range(4, needed):
                 said = self.ended(descriptors, *words)
