@@ -7,24 +7,6 @@
  * often, as a slow machine's answer to a later try isn't there so soon. */
 enum { MISSED = 300, TRIES = 100 };
 
-/* A slot number that isn't the port's, and the second slot by its own. */
-static void other_slot(void)
-{
-    static struct test_slot second;
-    uint32_t handle = 0;
-    struct trdp_slot_publisher terms = { .com_id = 2900, .cycle = 20000,
-        .to = { other_address, PD } };
-    if (!test_open(&second, "127.0.9.1", 18001, WAIT))
-        return;
-    CHECK_ERROR(trdp_slot_unpublish(&second.slot, 1), TRDP_SLOT_OTHER_SLOT);
-    second.slot.terms.number = 1;
-    CHECK_ERROR(trdp_slot_unpublish(&second.slot, 1), TRDP_SLOT_REFUSED_NO_HANDLE);
-    CHECK_ERROR(trdp_slot_publish(&second.slot, &terms, &handle), TRDP_SLOT_OK);
-    CHECK_ERROR(trdp_slot_unpublish(&second.slot, handle), TRDP_SLOT_OK);
-    CHECK(handle == 1);
-    trdp_slot_close(&second.slot);
-}
-
 /* Has no answer under way any more; after that each is waited for. */
 static void settle(struct trdp_slot *slot)
 {
@@ -335,7 +317,8 @@ static void operate(void)
     CHECK(count == TRDP_SLOT_SLOTS && memcmp(&usages[15].quotas, &quotas, sizeof quotas) == 0);
     CHECK_ERROR(trdp_slot_unpublish(door, handle), TRDP_SLOT_OK);
     CHECK_ERROR(trdp_slot_role(door, 3, true), TRDP_SLOT_FAULT_UNKNOWN);
-    CHECK_ERROR(trdp_slot_pull(operates, 1), TRDP_SLOT_FAULT_UNKNOWN);
+    CHECK_ERROR(trdp_slot_pull(operates, 1), TRDP_SLOT_OPERATORS_PORT);
+    CHECK_ERROR(trdp_slot_role(operates, 3, true), TRDP_SLOT_OK);
     /* Each is answered at its own; over control sockets a fifth one is one too many. */
     for (int i = 1; i < 5; i++) {
         test_open(&fifth[i], "127.0.9.1", 18100, WAIT);
@@ -349,7 +332,6 @@ static void operate(void)
 void test_anew(void)
 {
     static struct test_slot relayed;
-    other_slot();
     if (test_folder == NULL && test_open(&relayed, "127.0.9.3", 18000, WAIT)) {
         late_answers(&relayed.slot, dropped_answers(&relayed.slot));
         trdp_slot_close(&relayed.slot);

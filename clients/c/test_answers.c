@@ -1,4 +1,5 @@
-/* Answers that come late or twice or not at all, marks, indications that are kept, and a lease. */
+/* Answers that come late or twice or not at all, marks, the question whose port it is, indications
+ * that are kept, and a lease. */
 #include "test_teller.h"
 
 #include <stdio.h>
@@ -206,6 +207,31 @@ static void lease(void)
     latest();
     take_all(&told_of, &lost); /* the answers to further ones */
     CHECK(lost == 0);
+}
+
+/* The question whose port it is goes before the first call, as often as a line may be sent. If it
+ * isn't answered the call isn't sent, and the next call asks again. */
+void test_question(void)
+{
+    struct trdp_slot *slot = &at_port.slot;
+    slot->terms.timeout = 100;
+    slot->terms.tries = 2;
+    tell('%', "2");
+    tell('=', "0 done\n");
+    CHECK_ERROR(trdp_slot_pull(slot, 1), TRDP_SLOT_TIMEOUT);
+    CHECK(slot->tried == 0 && had("#"));
+    /* The answers come late, and aren't taken for the call's. */
+    slot->terms.timeout = ANSWER;
+    uint32_t stale = slot->stale;
+    tell('!', "0 refused NoHandle\n|0 refused NoHandle\n");
+    latest();
+    CHECK_ERROR(trdp_slot_pull(slot, 2), TRDP_SLOT_OK);
+    CHECK(slot->tried == 1 && had("pull 2") && slot->stale == stale + 2);
+    /* From then on no call asks: a question wouldn't be answered. */
+    tell('%', "1");
+    slot->terms.tries = 1;
+    CHECK_ERROR(trdp_slot_pull(slot, 3), TRDP_SLOT_OK);
+    tell('%', "0");
 }
 
 void test_answers(void)

@@ -1,4 +1,4 @@
-/* Control sockets: `busy`, ends, answers that come late, resets and leases. */
+/* Control sockets: `busy`, ends, answers that come late, resets, leases, and wrong paths. */
 #include "test_paths.h"
 
 /* Another application lives there, as often as is said; then it doesn't. The first time may be said
@@ -11,6 +11,7 @@ static void says_busy(int listener)
         close(connection);
     }
     int connection = begins(listener);
+    hears_question(connection);
     hears(connection, "pull 1");
     says(connection, "0 done\n");
     hears(connection, "pull 2");
@@ -50,10 +51,11 @@ static void busy(void)
 static void ends(int listener)
 {
     int connection = begins(listener);
+    hears_question(connection);
     hears(connection, "pull 1");
     says(connection, "0 silent 1\n0 done\n0 silent 2\n0 sil");
     close(connection);
-    connection = begins(listener);
+    connection = begins(listener); /* where nothing is asked any more */
     hears(connection, "pull 2");
     close(connection);
     connection = begins(listener);
@@ -110,6 +112,9 @@ static void ended(void)
 static void answers_late(int listener)
 {
     int connection = begins(listener);
+    hears_question(connection);
+    hears(connection, "pull 0");
+    says(connection, "0 done\n");
     hears(connection, "pull 1");
     hears(connection, "get");
     says(connection, "0 done\n0 silent 1\nline fault Count\n");
@@ -132,8 +137,10 @@ static void answers_late(int listener)
 
 static void late_answers(void)
 {
-    if (!open_at(answers_late, 60))
+    if (!open_at(answers_late, WAIT))
         return;
+    CHECK_ERROR(trdp_slot_pull(slot, 0), TRDP_SLOT_OK);
+    slot->terms.timeout = 60;
     CHECK_ERROR(trdp_slot_pull(slot, 1), TRDP_SLOT_TIMEOUT);
     slot->terms.timeout = WAIT;
     CHECK_ERROR(trdp_slot_pull(slot, 2), TRDP_SLOT_REFUSED_STATE);
@@ -162,6 +169,7 @@ static void late_answers(void)
 static void resets(int listener)
 {
     int connection = begins(listener);
+    hears_question(connection);
     hears(connection, "reset");
     hears(connection, "get");
     says(connection, "0 silent 1\n0 done\n");
@@ -188,6 +196,9 @@ static void reset(void)
 static void hears_remarks(int listener)
 {
     int connection = begins(listener);
+    hears_question(connection);
+    hears(connection, "pull 0");
+    says(connection, "0 done\n");
     for (int i = 0; i < 3; i++)
         hears(connection, "#");
     says(connection, "0 silent 1\n");
@@ -207,9 +218,10 @@ static void hears_remarks(int listener)
 
 static void lease(void)
 {
-    int64_t start = trdp_slot_now();
     if (!open_at(hears_remarks, WAIT))
         return;
+    int64_t start = trdp_slot_now();
+    CHECK_ERROR(trdp_slot_pull(slot, 0), TRDP_SLOT_OK);
     slot->terms.lease = 90;
     CHECK(next(WAIT) == TRDP_SLOT_OK && told_at_path.handle == 1);
     CHECK(trdp_slot_now() - start >= 80);
@@ -221,6 +233,102 @@ static void lease(void)
     close_and_wait();
 }
 
+/* The question whose path it is, whose answer comes late. */
+static void hears_questions(int listener)
+{
+    int connection = begins(listener);
+    hears(connection, "get 0");
+    hears(connection, "get 0");
+    says(connection, "0 refused NoHandle\n0 silent 1\n0 refused NoHandle\n");
+    hears(connection, "get");
+    says(connection, "line fault Count\n");
+    hears(connection, "pull 2");
+    says(connection, "0 done\n");
+    close(connection);
+    hears(begins(listener), "pull 3"); /* where nothing is asked any more */
+}
+
+static void questions(void)
+{
+    if (!open_at(hears_questions, 60))
+        return;
+    CHECK_ERROR(trdp_slot_pull(slot, 1), TRDP_SLOT_TIMEOUT);
+    CHECK(slot->tried == 0);
+    slot->terms.timeout = WAIT;
+    CHECK_ERROR(trdp_slot_pull(slot, 2), TRDP_SLOT_OK);
+    CHECK(slot->tried == 1 && slot->stale == 1);
+    CHECK(next(0) == TRDP_SLOT_OK && told_at_path.handle == 1);
+    CHECK_ERROR(next(WAIT), TRDP_SLOT_RESTARTED);
+    CHECK_ERROR(trdp_slot_pull(slot, 3), TRDP_SLOT_RESTARTED);
+    close_and_wait();
+}
+
+/* Another slot's path, and the operator's: the call isn't sent, and the connection is ended. */
+static void says_wrong(int listener)
+{
+    static const char *const answers[] = { "7 refused NoHandle\n", "line fault Unknown\n" };
+    char more;
+    for (int i = 0; i < 3; i++) {
+        int connection = begins(listener);
+        if (i == 2) {
+            hears(connection, "role 3 leader"); /* which asks nothing */
+            says(connection, "ok\n");
+        }
+        hears(connection, "get 0");
+        says(connection, answers[i > 0]);
+        if (read(connection, &more, 1) != 0)
+            fail("a line is sent to a wrong path");
+        close(connection);
+    }
+}
+
+static void wrong_paths(void)
+{
+    uint32_t handle = 9;
+    struct trdp_slot_requester requester = { .com_id = 1 };
+    if (!open_at(says_wrong, WAIT))
+        return;
+    CHECK_ERROR(trdp_slot_reset(slot), TRDP_SLOT_OTHER_SLOT);
+    CHECK(slot->tried == 0 && slot->socket == -1);
+    /* One that waits for indications doesn't go there again, and waits. */
+    int64_t start = trdp_slot_now();
+    CHECK_ERROR(next(2 * TRDP_SLOT_PAUSE), TRDP_SLOT_OTHER_SLOT);
+    CHECK(slot->socket == -1 && trdp_slot_now() - start >= 2 * TRDP_SLOT_PAUSE);
+    CHECK_ERROR(trdp_slot_openpull(slot, &requester, &handle), TRDP_SLOT_OPERATORS_PORT);
+    CHECK(slot->tried == 0 && slot->socket == -1 && handle == 9);
+    CHECK_ERROR(trdp_slot_role(slot, 3, true), TRDP_SLOT_OK);
+    CHECK_ERROR(trdp_slot_reset(slot), TRDP_SLOT_OPERATORS_PORT);
+    CHECK(child_is_done());
+    trdp_slot_close(slot);
+}
+
+/* The operator's path, whose answer to a question is also that of a mark, and comes late. */
+static void says_unknown(int listener)
+{
+    int connection = begins(listener);
+    hears(connection, "role 1 leader");
+    says(connection, "ok\n");
+    hears(connection, "get 0");
+    hears(connection, "role"); /* `mark` would be answered as the question is */
+    says(connection, "line fault Unknown\nline fault Count\n");
+    hears(connection, "role 2 leader");
+    says(connection, "ok\n");
+}
+
+static void question_and_mark(void)
+{
+    if (!open_at(says_unknown, WAIT))
+        return;
+    CHECK_ERROR(trdp_slot_role(slot, 1, true), TRDP_SLOT_OK);
+    slot->mark = 2; /* as after two marks: the next one would be `mark` */
+    slot->terms.timeout = 60;
+    CHECK_ERROR(trdp_slot_pull(slot, 1), TRDP_SLOT_TIMEOUT);
+    CHECK(slot->tried == 0);
+    slot->terms.timeout = WAIT;
+    CHECK_ERROR(trdp_slot_role(slot, 2, true), TRDP_SLOT_OK);
+    close_and_wait();
+}
+
 void test_ends(void)
 {
     busy();
@@ -228,4 +336,7 @@ void test_ends(void)
     late_answers();
     reset();
     lease();
+    questions();
+    wrong_paths();
+    question_and_mark();
 }

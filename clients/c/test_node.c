@@ -302,6 +302,7 @@ void test_node(void)
     data_refusals();
     notifications();
     test_sessions();
+    test_wrong_port();
     test_anew();
     trdp_slot_close(door);
     trdp_slot_close(other);

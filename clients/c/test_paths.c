@@ -78,6 +78,12 @@ int begins(int listener)
     return connection;
 }
 
+void hears_question(int connection)
+{
+    hears(connection, "get 0");
+    says(connection, "0 refused NoHandle\n");
+}
+
 void child_begins(void (*act)(int listener), int listener)
 {
     fflush(stdout);
@@ -126,6 +132,8 @@ static void says_pieces(int listener)
 {
     static const char text[] = "3 silent 7\n3 value Valid 9 0a0b\n3 al";
     int connection = begins(listener);
+    hears(connection, "get 0");
+    says(connection, "3 refused NoHandle\n");
     hears(connection, "get 1");
     for (size_t i = 0; i < sizeof text - 1; i++) {
         send(connection, text + i, 1, MSG_NOSIGNAL);
@@ -160,6 +168,7 @@ static void pieces(void)
 static void says_longest(int listener)
 {
     int connection = begins(listener);
+    hears_question(connection);
     if (hears_front(connection, "notify 300 - - 0 0 10.0.0.2:17225 00010203")
         != strlen("notify 300 - - 0 0 10.0.0.2:17225 ") + 2 * TRDP_SLOT_MESSAGE)
         fail("the line is cut");
@@ -205,6 +214,7 @@ static void longest(void)
 static void says_overlong(int listener)
 {
     int connection = begins(listener);
+    hears_question(connection);
     hears(connection, "pull 1");
     says(connection, "0 notified 1 10.0.0.2:17225 300 - - ");
     for (int i = 0; i < 5000; i++)

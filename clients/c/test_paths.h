@@ -32,6 +32,10 @@ void says(int connection, const char *text);
 /* The next connection, and its first line. */
 int begins(int listener);
 
+/* Hears the question whose port it is, which comes before the first call, and answers it as the
+ * port of slot 0 does. */
+void hears_question(int connection);
+
 /* Starts a child that does this with what it listens by, or with -1. */
 void child_begins(void (*act)(int listener), int listener);
 
@@ -49,7 +53,7 @@ void close_and_wait(void);
 /* The next text of the slot. */
 enum trdp_slot_error next(uint32_t wait);
 
-/* The tests of ends, late answers, resets and leases. */
+/* The tests of ends, late answers, resets, leases and wrong paths. */
 void test_ends(void);
 
 #endif

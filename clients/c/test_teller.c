@@ -26,24 +26,24 @@ static void say(int socket, const struct sockaddr_in *to, const char *texts, siz
     }
 }
 
-/* The answer to a mark, by which the header finds its place among the answers; NULL for what is
- * none. */
-static const char *mark_fault(const char *text, size_t length)
+/* The answer to a line of the header's own: a mark, by which it finds its place among the answers,
+ * or the question whose port this is. NULL for a call. */
+static const char *own_answer(const char *text, size_t length)
 {
-    static const char *const marks[] = { "mark", "get", "get mark" };
-    static const char *const faults[] = { "line fault Unknown\n", "line fault Count\n",
-        "line fault BadWord\n" };
-    for (int i = 0; i < 3; i++)
-        if (strlen(marks[i]) == length && memcmp(marks[i], text, length) == 0)
-            return faults[i];
+    static const char *const lines[] = { "mark", "get", "get mark", "get 0" };
+    static const char *const answers[] = { "line fault Unknown\n", "line fault Count\n",
+        "line fault BadWord\n", "0 refused NoHandle\n" };
+    for (int i = 0; i < 4; i++)
+        if (strlen(lines[i]) == length && memcmp(lines[i], text, length) == 0)
+            return answers[i];
     return NULL;
 }
 
 /* The daemon: what comes from the teller with `=` before it is said to the next line of the slot,
  * which is no remark, with `+` to the next remark too, and with `!` at once to where the latest
- * line came from; `?` is answered by that line. A mark is
- * answered, and isn't the latest line; where `%` and a number came before, that many of them aren't
- * answered. */
+ * line came from; `?` is answered by that line. A mark and
+ * a question are answered, and aren't the latest line; after `%` and a number that many of them
+ * aren't answered. */
 static void daemon_of_test(int socket)
 {
     static char text[65536], next[65536], line[65536];
@@ -68,10 +68,10 @@ static void daemon_of_test(int socket)
             sendto(socket, line, line_length, 0, (struct sockaddr *)&from, size);
         } else if (text[0] == '%') {
             unanswered = text[1] - '0';
-        } else if (mark_fault(text, length) != NULL) {
-            const char *fault = mark_fault(text, length);
+        } else if (own_answer(text, length) != NULL) {
+            const char *answer = own_answer(text, length);
             if (unanswered-- <= 0)
-                sendto(socket, fault, strlen(fault), 0, (struct sockaddr *)&from, size);
+                sendto(socket, answer, strlen(answer), 0, (struct sockaddr *)&from, size);
         } else {
             slot = from;
             memcpy(line, text, length);
@@ -152,6 +152,11 @@ static void nobody(void)
     if (!test_open(&at_port, here, PORT, 10000))
         return;
     at_port.slot.terms.tries = 2;
+    /* Nobody says whose port it is, so that the call itself isn't sent. */
+    CHECK_ERROR(trdp_slot_pull(&at_port.slot, 1), TRDP_SLOT_NOBODY);
+    CHECK_ERROR(trdp_slot_reset(&at_port.slot), TRDP_SLOT_NOBODY);
+    CHECK(at_port.slot.tried == 0 && trdp_slot_now() - start < 5000);
+    at_port.slot.is_known = true; /* as after an answer */
     CHECK_ERROR(trdp_slot_pull(&at_port.slot, 1), TRDP_SLOT_NOBODY);
     CHECK_ERROR(trdp_slot_reset(&at_port.slot), TRDP_SLOT_NOBODY);
     CHECK(at_port.slot.tried == 1 && trdp_slot_now() - start < 5000);
@@ -170,6 +175,7 @@ void test_teller(void)
     teller = udp(false);
     if (CHECK(child > 0) && test_open(&at_port, here, PORT, ANSWER)) {
         CHECK(had("#"));
+        test_question();
         test_lines();
         test_answers();
         ends_meanwhile(child);

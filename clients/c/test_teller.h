@@ -11,7 +11,8 @@ extern struct test_slot at_port;
 enum { ANSWER = 20000, TRIES = 100 };
 
 /* Tells the daemon what to say: `=` to the next lines of the slot, `+` to its remarks too, `!` at
- * once; texts with `|` between them. `%` and a digit leave so many of the next marks unanswered. */
+ * once; texts with `|` between them. `%` and a digit leave so many of the next marks and questions
+ * unanswered. */
 void tell(char when, const char *texts);
 
 /* The latest line that the daemon had. What it said before has come then. */
@@ -20,7 +21,8 @@ const char *latest(void);
 /* Whether the latest line that the daemon had is this one. */
 bool had(const char *line);
 
-/* The tests at it. */
+/* The tests at it. The first one has a slot of which no call was made yet. */
+void test_question(void);
 void test_lines(void);
 void test_answers(void);
 

@@ -58,6 +58,15 @@
  * the way keeps the order, as within a machine, no answer is taken for that to another call, but
  * for one that the way brings twice, which the one within a machine doesn't.
  *
+ * WHOSE PORT IT IS. The first call of a slot begins with a question, the line `get 0`. No object
+ * has the handle 0, so that line changes nothing, and its refusal begins with the number of the
+ * port's slot. If that isn't `number`, the call returns OTHER_SLOT; at the operator's port it
+ * returns OPERATORS_PORT. The call itself isn't sent then, and a connection to such a path is
+ * ended, so that it keeps nobody out. The question may be sent `tries` times, which `tried` doesn't
+ * count. If no answer comes, the call returns TIMEOUT with `tried` 0, and the next call asks again.
+ * So the first call may take twice as long. Once the port has answered, no call asks again, even
+ * after a connection has ended. The operator's calls and trdp_slot_next ask nothing.
+ *
  * OBJECTS THAT ARE GONE. A daemon that was started again has no objects, and refuses handles that
  * it once gave; so does one whose lease for this slot has run out. TRDP_SLOT_REFUSED_NO_HANDLE of
  * a handle that should be there says that all objects are to be made again. (At a second try it
@@ -153,8 +162,11 @@ enum trdp_slot_error {
     TRDP_SLOT_CUT,
     /* Indications were lost, or answers; `lost` says how many. */
     TRDP_SLOT_LOST,
-    /* The control port is that of another slot than `number`, which has taken the call. */
+    /* The control port is that of another slot than `number`. With `tried` 0, as at the first call,
+     * the call wasn't sent. Otherwise the daemon has changed since, and that slot took the call. */
     TRDP_SLOT_OTHER_SLOT,
+    /* The port is the operator's, where no slot's calls are taken. The call wasn't sent. */
+    TRDP_SLOT_OPERATORS_PORT,
     /* At a control socket: another application lives there. */
     TRDP_SLOT_BUSY,
     /* At a control socket: the connection has ended, and with it all objects. They are to be made
@@ -238,6 +250,7 @@ struct trdp_slot {
     bool is_skipping;             /* the line that comes is longer than `text` */
     bool is_unsure;               /* answers to earlier lines may still come */
     bool is_operator;             /* the latest line was an operator's */
+    bool is_known;                /* the port has said that it is this slot's */
     unsigned mark;                /* which mark was sent last */
     uint32_t marks;               /* how many marks were sent whose answers haven't come */
     int64_t spoke;                /* when the latest line went out */
@@ -416,6 +429,7 @@ static inline const char *trdp_slot_error_text(enum trdp_slot_error error)
     case TRDP_SLOT_CUT: return "the bytes are more than the room";
     case TRDP_SLOT_LOST: return "indications were lost";
     case TRDP_SLOT_OTHER_SLOT: return "the control port is another slot's";
+    case TRDP_SLOT_OPERATORS_PORT: return "this is the operator's port, and no slot's";
     case TRDP_SLOT_BUSY: return "another application is at the control socket";
     case TRDP_SLOT_RESTARTED: return "the connection has ended, and all objects with it";
     case TRDP_SLOT_NO_FIT: return "the value is none of its dataset";
@@ -1117,7 +1131,8 @@ static inline void trdp_slot_drop_kept(struct trdp_slot *slot)
     slot->kept_length = 0;
 }
 
-/* Leaves a connection that has ended. What is kept of it is about objects that are gone. */
+/* Leaves a connection that has ended, or is to a wrong path. What is kept of it is about objects
+ * that are gone. */
 static inline enum trdp_slot_error trdp_slot_leave(struct trdp_slot *slot,
     enum trdp_slot_error error)
 {
@@ -1126,7 +1141,7 @@ static inline enum trdp_slot_error trdp_slot_leave(struct trdp_slot *slot,
     slot->come = slot->taken = 0;
     slot->is_skipping = slot->is_unsure = false;
     slot->marks = 0;
-    slot->absence = error == TRDP_SLOT_BUSY ? TRDP_SLOT_BUSY : TRDP_SLOT_NOBODY;
+    slot->absence = error == TRDP_SLOT_RESTARTED ? TRDP_SLOT_NOBODY : error;
     trdp_slot_drop_kept(slot);
     return error;
 }
@@ -1509,11 +1524,14 @@ static inline enum trdp_slot_error trdp_slot_connect(struct trdp_slot *slot)
 }
 
 /* Connects, where there is no connection, by that moment; it is tried again and again, unless
- * another application is there. */
+ * another application is there. Only a call tries a wrong path again. */
 static inline enum trdp_slot_error trdp_slot_connect_by(struct trdp_slot *slot, int64_t until)
 {
+    bool is_wrong = slot->absence == TRDP_SLOT_OTHER_SLOT
+        || slot->absence == TRDP_SLOT_OPERATORS_PORT;
     while (slot->socket < 0) {
-        int64_t now = trdp_slot_now(), due = slot->connected + TRDP_SLOT_PAUSE;
+        int64_t now = trdp_slot_now();
+        int64_t due = is_wrong ? INT64_MAX : slot->connected + TRDP_SLOT_PAUSE;
         if (now >= due) {
             if (trdp_slot_connect(slot) == TRDP_SLOT_BUSY)
                 return TRDP_SLOT_BUSY;
@@ -1663,17 +1681,6 @@ static inline enum trdp_slot_error trdp_slot_settle(struct trdp_slot *slot)
     return error;
 }
 
-/* What comes before each call: a connection, where there is none; what waits is taken; and answers
- * that are still under way are waited for. */
-static inline enum trdp_slot_error trdp_slot_prepare(struct trdp_slot *slot)
-{
-    slot->tried = 0;
-    enum trdp_slot_error error = slot->socket < 0 ? trdp_slot_connect(slot) : TRDP_SLOT_OK;
-    if (error == TRDP_SLOT_OK)
-        error = trdp_slot_drain(slot);
-    return error == TRDP_SLOT_OK ? trdp_slot_settle(slot) : error;
-}
-
 /* Waits for the answer to a line until that moment: one of that form, or an error. NOBODY as soon
  * as the system says so. */
 static inline enum trdp_slot_error trdp_slot_hear(struct trdp_slot *slot,
@@ -1694,6 +1701,46 @@ static inline enum trdp_slot_error trdp_slot_hear(struct trdp_slot *slot,
             return said->error;
         trdp_slot_put_aside(slot, said, piece);
     }
+}
+
+/* Asks whose port this is, until an answer comes; a late one to an earlier question is as good. The
+ * operator's port answers as it does to the mark 0, so the next mark is another one. */
+static inline enum trdp_slot_error trdp_slot_identify(struct trdp_slot *slot)
+{
+    enum trdp_slot_error error = TRDP_SLOT_TIMEOUT;
+    uint32_t asked = 0;
+    slot->mark = 0;
+    while (error == TRDP_SLOT_TIMEOUT && asked++ < trdp_slot_tries(slot)) {
+        char question[] = "get 0";
+        struct trdp_slot_said said;
+        struct trdp_slot_piece piece;
+        int64_t until = trdp_slot_deadline(slot);
+        error = trdp_slot_send(slot, question, strlen(question), until);
+        if (error == TRDP_SLOT_OK)
+            error = trdp_slot_hear(slot, TRDP_SLOT_FORM_VALUE, until, &said, &piece);
+        slot->is_unsure = slot->is_unsure || error == TRDP_SLOT_TIMEOUT;
+    }
+    slot->is_known = error == TRDP_SLOT_OK
+        || (error >= TRDP_SLOT_REFUSED_NO_HANDLE && error <= TRDP_SLOT_REFUSED_OTHERWISE);
+    if (slot->is_known)
+        return TRDP_SLOT_OK;
+    if (error == TRDP_SLOT_FAULT_UNKNOWN)
+        error = TRDP_SLOT_OPERATORS_PORT;
+    bool is_wrong = error == TRDP_SLOT_OTHER_SLOT || error == TRDP_SLOT_OPERATORS_PORT;
+    return is_wrong && trdp_slot_has_path(slot) ? trdp_slot_leave(slot, error) : error;
+}
+
+/* What comes before each call: a connection, if there is none; what waits is taken; the port is
+ * asked whose it is, unless it has said so; and answers that are still under way are waited for. */
+static inline enum trdp_slot_error trdp_slot_prepare(struct trdp_slot *slot)
+{
+    slot->tried = 0;
+    enum trdp_slot_error error = slot->socket < 0 ? trdp_slot_connect(slot) : TRDP_SLOT_OK;
+    if (error == TRDP_SLOT_OK)
+        error = trdp_slot_drain(slot);
+    if (error == TRDP_SLOT_OK && !slot->is_known && !slot->is_operator)
+        error = trdp_slot_identify(slot);
+    return error == TRDP_SLOT_OK ? trdp_slot_settle(slot) : error;
 }
 
 /* Makes a call: sends its line until an answer of that form or an error comes. */
@@ -1773,9 +1820,9 @@ static inline enum trdp_slot_error trdp_slot_do_handle(struct trdp_slot *slot, c
 
 /* ---- Process data ----
  *
- * Every call below may come to TIMEOUT, NOBODY, SYSTEM, OTHER_SLOT, at a control socket to BUSY and
- * RESTARTED, to ARGUMENT for a slot that isn't open, and, where it carries bytes, to LONG. Named
- * are the refusals that docs/SCRIPT.md has for it. */
+ * Every call below may come to TIMEOUT, NOBODY, SYSTEM, OTHER_SLOT, OPERATORS_PORT, at a control
+ * socket to BUSY and RESTARTED, to ARGUMENT for a slot that isn't open, and, where it carries
+ * bytes, to LONG. Named are the refusals that docs/SCRIPT.md has for it. */
 
 /* Makes a publisher, whose handle comes. A second try may make a second one.
  * Refusals: CYCLE, NO_DATASET, TOO_LONG, QUOTA, EXHAUSTED. */
@@ -2047,8 +2094,8 @@ static inline enum trdp_slot_error trdp_slot_reset(struct trdp_slot *slot)
  *
  * The calls below are of a slot that was opened at the operator's port, or at its path, whatever
  * its `number`. At a control socket four operators may be connected at once, and a fifth one is
- * BUSY. They come to the same errors as the others, to FAULT_UNKNOWN at the control port of a slot,
- * and to what is named. */
+ * BUSY. They come to the same errors as the others but OPERATORS_PORT, to FAULT_UNKNOWN at the
+ * control port of a slot, and to what is named. */
 
 /* A line of the operator. */
 static inline struct trdp_slot_writer trdp_slot_operator_line(struct trdp_slot *slot,
@@ -2224,7 +2271,8 @@ static inline enum trdp_slot_error trdp_slot_tell_lost(struct trdp_slot *slot,
  *
  * At a control socket RESTARTED where the connection has ended. The next call of this connects
  * again within its wait, without one at most once in TRDP_SLOT_PAUSE milliseconds, and answers
- * NOBODY, SYSTEM or BUSY where it couldn't.
+ * NOBODY, SYSTEM or BUSY where it couldn't. After a call that returned OTHER_SLOT or OPERATORS_PORT
+ * it doesn't connect again, and returns the same after its wait.
  *
  * A program that polls `socket` itself calls this with a wait of 0 before, until it answers
  * TIMEOUT: what is kept, and what has come with another line, isn't at the socket any more. */
