@@ -303,6 +303,7 @@ void test_node(void)
     notifications();
     test_sessions();
     test_wrong_port();
+    test_restarts();
     test_anew();
     trdp_slot_close(door);
     trdp_slot_close(other);

@@ -48,9 +48,11 @@ struct trdp_slot_publisher publisher(void);
 
 struct trdp_slot_subscription subscription(bool keep);
 
-/* The tests of message data's sessions, of wrong ports, and of what goes wrong on the way. */
+/* The tests of message data's sessions, of wrong ports, of restarts, and of what goes wrong on the
+ * way. */
 void test_sessions(void);
 void test_wrong_port(void);
+void test_restarts(void);
 void test_anew(void);
 
 #endif
