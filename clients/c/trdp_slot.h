@@ -1932,7 +1932,9 @@ static inline enum trdp_slot_error trdp_slot_closepull(struct trdp_slot *slot, u
  * datagram. ARGUMENT where a URI is longer than 32 bytes, or `payload` is NULL and `length` isn't
  * 0. */
 
-/* Makes a listener, whose handle comes. A second try may make a second one.
+/* Makes a listener, whose handle comes. A second try may make a second one. Only one application of
+ * a node should answer requests of a comId: if two applications listen to the same requests, both
+ * are asked, the caller takes only the first reply, and its confirmation reaches both repliers.
  * Refusals: RANGE, QUOTA, EXHAUSTED. */
 static inline enum trdp_slot_error trdp_slot_listen(struct trdp_slot *slot,
     const struct trdp_slot_listener *terms, uint32_t *handle)

@@ -108,6 +108,7 @@ class Page(unittest.TestCase):
         doors.write_text(doors.read_text() + self.block("[[telegram]]").code)
         self.tools()
         self.doors()
+        self.request()
         self.paths()
         self.controls()
 
@@ -141,7 +142,7 @@ class Page(unittest.TestCase):
 
     def look(self) -> None:
         """The shortest program in C."""
-        self.write("look.c", '#include "trdp_slot.h"')
+        self.write("look.c", '#include "trdp_slot.h"\n#include <stdio.h>\n\nint main')
         compiling, looking = self.steps("$ gcc -std=c99 -Wall -Wextra -O2 -I clients/c -o look look.c")
         self.prints(compiling)
         self.prints_at_last(looking)
@@ -180,6 +181,12 @@ class Page(unittest.TestCase):
             while "Valid: 4 doors, 7 bytes\n" not in said[-1:]:
                 said.append(process.stdout.readline())
                 self.assertNotEqual(said[-1], "", said)
+
+    def request(self) -> None:
+        """A request and its reply in C."""
+        self.write("lock.c", '#include "trdp_slot.h"\n#include <stdio.h>\n\nstruct side')
+        for step in self.steps("$ gcc -std=c99 -pedantic -Wall -Wextra -Werror -O2 -I clients/c -o lock lock.c"):
+            self.prints(step)
 
     def paths(self) -> None:
         """The programs in Python at a control socket, of which each is the first one once, and the second one once."""
