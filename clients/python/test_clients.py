@@ -8,6 +8,7 @@ Ends with a line as `python: 90 passed, 0 failed`, and with status 1 where one f
 from __future__ import annotations
 
 import os
+import pathlib
 import sys
 import unittest
 import warnings
@@ -21,12 +22,7 @@ def main(words: list[str]) -> int:
     import testing
     if not os.access(testing.PROGRAM, os.X_OK):
         print(f"python: no program at {testing.PROGRAM}: ./run prove builds it; or name one by TRDPD", file=sys.stderr)
-    names = ["test_values", "test_calls", "test_answers", "test_restarts", "test_traps", "test_chance", "test_client",
-             "test_tools", "test_groups", "test_filter", "test_page", "test_ports", "test_group_ports", "test_edge",
-             "test_news", "test_times", "test_log", "test_daemon", "test_programs", "test_failures", "test_datasets",
-             "test_controls", "test_ends", "test_leases", "test_control_files", "test_reports", "test_paths",
-             "test_made_paths",
-             "test_anew", "test_beside", "test_install"]
+    names = sorted(it.stem for it in pathlib.Path(__file__).parent.glob("test_*.py") if it.stem != "test_clients")
     tests = unittest.defaultTestLoader.loadTestsFromNames(names)
     ran = unittest.TextTestRunner(verbosity=1).run(tests)
     failed = len(ran.failures) + len(ran.errors)
