@@ -92,8 +92,9 @@ class Makers(Clients):
         slot.put(made["put"], b"\x0a\x0b")
         return made
 
-    def is_whole(self, slot: Slot, made: dict[str, Handle]) -> None:
-        """All is there, once, and the listener hears."""
+    def is_whole(self, slot: Slot, made: dict[str, Handle], is_checked: bool) -> None:
+        """All is there, once, and the listener hears. `is_checked` is whether `check` has told the latest restart; if
+        not, it does so once."""
         self.assertEqual(self.operator().slots()[0].objects, WHOLE)
         self.assertEqual(sorted(it.number for it in made.values()),
                          list(range(made["put"].number, made["put"].number + 5)))
@@ -103,7 +104,7 @@ class Makers(Clients):
         self.assertIsInstance(told, Notified)
         assert isinstance(told, Notified)
         self.assertEqual((told.listener, told.payload), (made["listener"], b"\x0d"))
-        self.assertTrue(slot.check())
+        self.assertEqual([slot.check(), slot.check()], [is_checked, True])
 
     def runs_until(self, slot: Slot, objects: Kinds) -> bool:
         """Whether the slot has these objects, once the client has run for a while."""
@@ -125,7 +126,7 @@ class Anew(Makers):
             daemon.start()
             wait_until(lambda: self.runs_until(slot, WHOLE), 20)
             self.assertEqual(heard, [Restarted(tuple(made.values()), ())] * number)
-            self.is_whole(slot, made)
+            self.is_whole(slot, made, is_checked=False)
 
     def test_run_waits_for_a_daemon_that_isnt_there(self) -> None:
         daemon = self.starts()
@@ -140,7 +141,7 @@ class Anew(Makers):
         daemon.start()
         wait_until(lambda: self.runs_until(slot, WHOLE), 20)
         self.assertEqual(heard, [Restarted(tuple(made.values()), ())])
-        self.is_whole(slot, made)
+        self.is_whole(slot, made, is_checked=False)
 
     def test_the_daemon_is_started_anew_at_each_step(self) -> None:
         daemon = self.starts()
@@ -163,7 +164,7 @@ class Anew(Makers):
                 self.assertFalse(slot.check())
             self.assertEqual(self.operator().slots()[0].objects, WHOLE, number)
             self.assertEqual({type(it) for it in iter(lambda: slot.next_indication(0), None)}, {Restarted})
-            self.is_whole(slot, made)
+            self.is_whole(slot, made, is_checked=True)
 
     def test_without_restore_run_tells_it(self) -> None:
         daemon = self.starts()
@@ -187,7 +188,7 @@ class Anew(Makers):
             daemon.start()
             call()
             self.assertIsInstance(slot.next_indication(5 * SECOND), Restarted)
-            self.is_whole(slot, made)
+            self.is_whole(slot, made, is_checked=call == slot.check)
 
     def test_one_whose_lease_has_run_out(self) -> None:
         self.starts("--lease", str(LEASE))
@@ -197,7 +198,7 @@ class Anew(Makers):
         wait_until(lambda: self.operator().slots()[0].objects == Kinds(0, 0, 0, 0, 0, 0), MARGIN * LEASE)
         told = slot.next_indication(5 * SECOND)
         self.assertEqual(told, Restarted(tuple(made.values()), ()))
-        self.is_whole(slot, made)
+        self.is_whole(slot, made, is_checked=False)
 
     def test_the_lease_is_kept(self) -> None:
         self.starts("--lease", str(LEASE))
@@ -288,7 +289,7 @@ class Restores(Makers):
         self.assertEqual(self.operator().slots()[0].objects, WHOLE)
         told = list(iter(lambda: slot.next_indication(0), None))
         self.assertEqual([type(it) for it in told], [Restarted])
-        self.is_whole(slot, made)
+        self.is_whole(slot, made, is_checked=True)
         return not refused
 
     def test_nothing_is_made_before_the_last_reset_is_answered(self) -> None:

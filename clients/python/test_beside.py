@@ -293,7 +293,7 @@ class Beside(Clients):
                 self.started.start()
                 self.assertIsInstance(await anext(slot), Restarted)
                 await slot.put(handle, b"\x01")
-                self.assertTrue(await slot.check())
+                self.assertEqual([await slot.check(), await slot.check()], [False, True])
 
         self.asynchronous(act, restore=True)
 

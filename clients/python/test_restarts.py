@@ -1,6 +1,7 @@
 """How a client makes its objects again: at a port that is made up, without a daemon."""
 from __future__ import annotations
 
+import contextlib
 import unittest
 from typing import Any
 
@@ -70,6 +71,15 @@ class Restarts(Case):
         self.assertFalse(slot.check())
         self.assertTrue(slot.check())
         self.assertEqual(len(self.node.made), 4)
+
+    def test_a_reset_leaves_nothing_for_check_to_tell(self) -> None:
+        for restore in (False, True):
+            slot, handles = self.declare(restore=restore)
+            self.node.start_anew()
+            with contextlib.suppress(Refused):
+                slot.get(handles["subscription"])
+            slot.reset()
+            self.assertTrue(slot.check())
 
     def test_without_restore_it_is_refused(self) -> None:
         slot, handles = self.declare()

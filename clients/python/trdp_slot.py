@@ -1009,6 +1009,7 @@ class Slot:
         self._start = 0  # how often the slot was seen to restart
         self._is_reset_due = reset  # whether the slot has yet to be reset for this client
         self._is_whole = True  # whether all that was declared is there, as far as this client makes it again
+        self._is_restart_untold = False  # whether the slot has restarted, and `check` hasn't said so
         self._told: collections.deque[Indication] = collections.deque()
         self._callbacks: dict[type, list[Callable[[Any], object]]] = {}
         self._marks = 0  # how many were sent
@@ -1236,11 +1237,13 @@ class Slot:
     def reset(self, *, tries: int | None = None) -> None:
         """Resets the slot: all its objects end at once, those of an earlier program too, and no handle is given out
         again. Nothing is sent to the network. A second try does no harm. Returns once the answer to the mark after the
-        last one that was sent has come."""
+        last one that was sent has come. From then on this client has no objects that a restart could have ended, so
+        `check` no longer reports an earlier restart."""
         self._reset_slot(self._tries(tries))
         for handle in [*self._handles.values(), *self._declared]:
             self._forget(handle)
         self._is_whole = True
+        self._is_restart_untold = False
 
     # -- indications ----------------------------------------------------------
 
@@ -1316,13 +1319,19 @@ class Slot:
 
     @_one_at_a_time
     def check(self) -> bool:
-        """Whether the slot still has all objects of this client; False where it has restarted since the call before, or
-        some of them weren't there yet. Makes one call, which changes nothing. With `restore` all are there again after
-        it. TimeoutError where no one is there."""
-        if not self._is_whole:
+        """Whether the slot still has all objects of this client. Returns False once if the slot has restarted since
+        `check` last returned, no matter which call or `run` has noticed that, and True from then on. Several restarts
+        between two calls of `check` make one False, so a program without `restore` makes its objects again once.
+
+        Makes one call, which changes nothing. With `restore`, all objects are there when it returns. Raises
+        TimeoutError if no answer comes; then it hasn't reported a restart, and the next `check` does."""
+        is_there = False
+        if self._is_whole:
+            is_there = self._has_objects(self.tries)
+        else:
             self._restore()
-            return False
-        return self._has_objects(self.tries)
+        is_told, self._is_restart_untold = not self._is_restart_untold, False
+        return is_there and is_told
 
     @_one_at_a_time
     def send_line(self, line: str) -> None:
@@ -1877,6 +1886,7 @@ class Slot:
         lost = [it for it in self._handles.values() if it.kind not in _DECLARED]
         self._begin_start()
         self._is_whole = not (self.restore and self._declared)
+        self._is_restart_untold = True
         self._told.append(Restarted(tuple(self._declared), tuple(lost)))
 
     def _begin_start(self) -> None:
