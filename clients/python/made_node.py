@@ -8,12 +8,15 @@ from typing import Any
 
 import testing
 from testing import Said
-from trdp_slot import Slot
+from trdp_slot import Refused, Slot
 
 ADDRESS = "127.0.8.40"
 # How many microseconds what has to come is waited for, at a port whose thread may be late, and what doesn't come.
 PATIENCE, SOON = 10_000_000, 50_000
 MARKS = {"mark": "line fault Unknown", "get": "line fault Count", "get mark": "line fault BadWord"}
+# What each client asks before its first call; what slot 0 says to it and to marks.
+QUESTION = "get 0"
+ANSWERS = {**MARKS, QUESTION: "0 refused NoHandle"}
 # A session.
 FIRST = uuid.UUID(int=0x0a0b0c0d000000000000000000000001)
 
@@ -32,8 +35,8 @@ class Node:
 
     def answer(self, line: str) -> list[str]:
         """The answer to a line."""
-        if line in MARKS:
-            return [MARKS[line]]
+        if line in ANSWERS:
+            return [ANSWERS[line]]
         verb, *words = line.split()
         if verb in ("publish", "subscribe", "openpull", "listen", "request"):
             self.highest += 1
@@ -69,6 +72,13 @@ class Case(unittest.TestCase):
         self.addCleanup(slot.close)
         return slot
 
+    def asked(self, **words: Any) -> Slot:
+        """A client that knows already which slot the port belongs to, and that awaits nothing."""
+        slot = self.client(**words)
+        self.assertRaises(Refused, slot.get, 0)
+        slot.sync()
+        return slot
+
     def losing(self, is_lost: Callable[[str], bool]) -> Callable[[str], Sequence[Said]]:
         """What the node answers, but to these lines, which get lost."""
         return lambda line: () if is_lost(line) else self.node.answer(line)
@@ -78,5 +88,5 @@ class Case(unittest.TestCase):
         testing.wait_until(lambda: self.port.lines.count("#") == count)
 
     def calls(self) -> list[str]:
-        """The calls that came, without marks and remarks."""
-        return [it for it in self.port.lines if it not in MARKS and it != "#"]
+        """The calls that came, without questions, marks and remarks."""
+        return [it for it in self.port.lines if it not in ANSWERS and it != "#"]

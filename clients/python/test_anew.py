@@ -294,13 +294,17 @@ class Restores(Makers):
 
     def test_nothing_is_made_before_the_last_reset_is_answered(self) -> None:
         self.starts()
-        slot, relay = self.through(answer_us=100_000, tries=5)
+        slot, relay = self.through(answer_us=LONG_US, tries=5)
+        # What it asks first is answered, and the mark after that.
+        slot._make_sure()
+        slot.sync()
+        slot.answer_us, asked = 100_000, relay.answers
         os.kill(self.started.process.pid, signal.SIGSTOP)
         wait_until(lambda: is_in(self.started, "T"))
         self.assertRaises(NoAnswer, slot.publish, 100, f"{DEVICE}:{PD}")
         os.kill(self.started.process.pid, signal.SIGCONT)
         # Of each try the answer to the reset, and to the mark after it.
-        wait_until(lambda: relay.answers == 2 * slot.tries)
+        wait_until(lambda: relay.answers == asked + 2 * slot.tries)
         said: list[str] = []
         send = slot._send
 

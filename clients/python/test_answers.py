@@ -36,7 +36,8 @@ class Answers(Case):
         self.assertEqual(len(self.calls()), 3)
 
     def test_silence_ends_after_its_time(self) -> None:
-        slot = self.client(tries=3, answer_us=40_000)
+        slot = self.asked(tries=3)
+        slot.answer_us = 40_000
         self.say = lambda line: []
         start = time.monotonic()
         with self.assertRaises(TimeoutError):
@@ -173,7 +174,7 @@ class Answers(Case):
         self.assertEqual([type(it) for it in slot.indications(20_000)], [Alive, Silent] * 10)
 
     def test_indications_between_are_kept(self) -> None:
-        slot = self.client()
+        slot = self.asked()
         self.say = lambda line: ["0 silent 1", *self.node.answer(line), "0 alive 1"]
         handle = slot.subscribe(100)
         self.assertEqual(slot.get(handle).value, b"\x01")

@@ -12,7 +12,7 @@ from typing import Any
 
 import testing
 import trdp_slot
-from made_node import ADDRESS, FIRST, MARKS, PATIENCE, Case
+from made_node import ADDRESS, ANSWERS, FIRST, MARKS, PATIENCE, Case
 from testing import SEED
 from trdp_slot import ConfigFault, NoAnswer, Nobody, Operator, OtherSlot, Refused, Silent, Slot, SlotError, WrongAnswer
 
@@ -22,7 +22,7 @@ class Calls(Case):
 
     def check_lines(self, calls: list[tuple[str, Callable[[], object], str]]) -> None:
         """Makes each call, which has that answer, and compares the line that it sends."""
-        self.say = lambda line: [MARKS[line]] if line in MARKS else [f"0 {self.told}"]
+        self.say = lambda line: [ANSWERS[line]] if line in ANSWERS else [f"0 {self.told}"]
         for told, call, line in calls:
             with self.subTest(line):
                 self.told = told
@@ -222,8 +222,9 @@ class Traps(Case):
                 self.assertIn(fault, str(caught.exception), text)
 
     def test_another_slot_answers(self) -> None:
-        answers = iter(["7 value Valid 1 0b", "7 done", "7 refused NoHandle", "0 refused NoHandle", "7 handle 4",
-                        "7 value x"])
+        answers = iter(["7 refused NoHandle"] * 3 + ["0 refused NoHandle"] * 2
+                       + ["7 value Valid 1 0b", "7 done", "7 refused NoHandle"]
+                       + ["7 refused NoHandle", "7 handle 4", "7 value x"])
         self.say = lambda line: [MARKS[line]] if line in MARKS else [next(answers)] if line != "#" else []
         slot = self.client(number=0)
         calls: list[Callable[[], object]] = [lambda: slot.get(1), lambda: slot.put(1, b""), lambda: slot.unpublish(1)]
@@ -233,7 +234,12 @@ class Traps(Case):
         said = f"{ADDRESS}:{self.port.number} is the port of another slot than slot 0: it says '7 refused NoHandle'"
         self.assertEqual(str(caught.exception), said)
         self.assertEqual(caught.exception.line, "7 refused NoHandle")
+        self.assertEqual(self.calls(), [])
         self.assertRaises(Refused, slot.get, 1)
+        # It is another slot's from here on, as of a daemon that has another configuration.
+        for call in calls:
+            self.assertRaises(OtherSlot, call)
+        self.assertEqual(self.calls(), ["get 1", "get 1", "put 1 -", "unpublish 1"])
         # At an address it is the slot that answers first.
         slot = self.client()
         self.assertEqual(slot.publish(100, "10.0.0.2:17224").number, 4)
@@ -244,8 +250,11 @@ class Traps(Case):
     def test_answers_that_no_trdpd_gives(self) -> None:
         told: str | None = None
         self.say = lambda line: [MARKS[line]] if line in MARKS else [] if told is None else [told]
-        slot = self.client(tries=1)
+        self.say, say = self.node.answer, self.say
+        slot, new = self.asked(tries=1), self.client(tries=1)
+        self.say = say
         calls: list[Callable[[], object]] = [
+            lambda: new.put(1, b""),
             lambda: slot.get(1), lambda: slot.publish(1, "10.0.0.2:17224"), lambda: slot.put(1, b"")]
         for told in ("0 refused", "0 refused x", "0 refused No Handle", "0 handle", "0 handle x", "0 handle -1",
                      "0 value", "0 value Valid", "0 value Valid x 00", "0 value Valid 1 0", "0 value Valid 1 xy",
@@ -260,6 +269,8 @@ class Traps(Case):
         told = None
         with self.assertRaisesRegex(NoAnswer, "^no answer, at 1 tries of 10000000 microseconds: get 1$"):
             slot.get(1)
+        with self.assertRaisesRegex(NoAnswer, "^no answer, at 1 tries of 10000000 microseconds: get 0$"):
+            new.put(1, b"")
         told = "0 handle 7"
         with self.assertRaisesRegex(NoAnswer, "^no answer, but '0 handle 7', at 1 tries"):
             slot.get(1)
@@ -279,8 +290,11 @@ class Traps(Case):
                 self.assertEqual(told.line, line)
 
     def test_nobody_is_there(self) -> None:
-        number = self.free_port()
+        gone = testing.Port(ADDRESS, self.node.answer)
+        number = gone.number
         with Slot.look(ADDRESS, number, tries=2, answer_us=PATIENCE) as slot:
+            self.assertRaises(Refused, slot.get, 1)
+            gone.close()
             calls: list[tuple[Callable[[], object], str]] = [
                 (lambda: slot.get(1), ": get 1"), (slot.sync, ""), (slot.check, ""),
                 (lambda: slot.listen(1), ": listen 1 0.0.0.0 0.0.0.0 0.0.0.0 - 0 0")]
@@ -290,6 +304,10 @@ class Traps(Case):
                 self.assertEqual(str(caught.exception), f"nobody is at {ADDRESS}:{number}{behind}")
             slot.send_line("get 1")
             self.assertRaises(Nobody, slot.read_line, PATIENCE)
+        number = self.free_port()
+        with Slot(ADDRESS, number, tries=2, answer_us=PATIENCE) as slot:
+            with self.assertRaisesRegex(Nobody, f"^nobody is at {ADDRESS}:{number}: get 0$"):
+                slot.listen(1)
         with self.assertRaisesRegex(Nobody, f"^nobody is at {ADDRESS}:{number}: role 1 leader$"):
             Operator(ADDRESS, number).role(1, True)
         # Somebody comes, and says nothing.

@@ -7,13 +7,12 @@ import tempfile
 import threading
 import time
 import unittest
-from collections.abc import Callable
+from collections.abc import Callable, Iterator
 
+from made_node import ANSWERS
 from test_paths import ANSWER_US
 from testing import SECOND
 from trdp_slot import Busy, Lost, NoAnswer, Restarted, Silent, Slot, WrongAnswer
-
-MARKS = {"mark": "line fault Unknown", "get": "line fault Count", "get mark": "line fault BadWord"}
 
 
 class Made(unittest.TestCase):
@@ -47,17 +46,22 @@ class Made(unittest.TestCase):
 
     @staticmethod
     def answering(*texts: str) -> Callable[[socket.socket], None]:
-        """Answers marks, and each other line by the next of these texts, until there is none."""
+        """Answers the question and marks, and each other line by the next of these texts, until there is none."""
         def answer(taken: socket.socket) -> None:
             left = list(texts)
             with taken.makefile("r") as lines:
                 for line in lines:
-                    text = MARKS.get(line.rstrip("\n")) or (left.pop(0) if left else None)
+                    text = ANSWERS.get(line.rstrip("\n")) or (left.pop(0) if left else None)
                     if text is None:
                         return
                     if text:
                         taken.sendall(f"{text}\n".encode())
         return answer
+
+    def asks(self, taken: socket.socket, lines: Iterator[str]) -> None:
+        """The client asks which slot it is, and is answered."""
+        self.assertEqual([next(lines), next(lines)], ["get 0\n", "get\n"])
+        taken.sendall(b"0 refused NoHandle\nline fault Count\n")
 
     def test_busy_is_read_though_nothing_can_be_sent(self) -> None:
         def busy(taken: socket.socket) -> None:
@@ -86,12 +90,13 @@ class Made(unittest.TestCase):
     def test_a_mark_that_was_dropped_is_followed_by_another_one(self) -> None:
         def act(taken: socket.socket) -> None:
             with taken.makefile("r") as lines:
-                self.assertEqual([next(lines) for _ in range(2)], ["get 1\n", "mark\n"])
+                self.asks(taken, lines)
+                self.assertEqual([next(lines) for _ in range(2)], ["get 1\n", "get mark\n"])
                 taken.sendall(b"0 value Valid 7 0b\nlost 1\n")
-                self.assertEqual([next(lines) for _ in range(1)], ["get\n"])
-                taken.sendall(b"line fault Count\n")
-                self.assertEqual([next(lines) for _ in range(2)], ["get 2\n", "get mark\n"])
-                taken.sendall(b"0 value Valid 8 0c\nline fault BadWord\n")
+                self.assertEqual([next(lines) for _ in range(1)], ["mark\n"])
+                taken.sendall(b"line fault Unknown\n")
+                self.assertEqual([next(lines) for _ in range(2)], ["get 2\n", "get\n"])
+                taken.sendall(b"0 value Valid 8 0c\nline fault Count\n")
 
         slot = self.serve(act)
         self.assertEqual([slot.get(it).counter for it in (1, 2)], [7, 8])
@@ -99,18 +104,22 @@ class Made(unittest.TestCase):
     def test_late_answers_are_never_those_of_another_call(self) -> None:
         held: list[bytes] = []
         freed = threading.Event()
+        freed.set()
 
         def act(taken: socket.socket) -> None:
             with taken.makefile("r") as lines:
                 for line in lines:
                     if line != "#\n":
-                        answer = MARKS.get(line.rstrip("\n")) or f"0 value Valid {line.split()[1]} 00"
+                        answer = ANSWERS.get(line.rstrip("\n")) or f"0 value Valid {line.split()[1]} 00"
                         held.append(f"{answer}\n".encode())
                     if freed.is_set():
                         taken.sendall(b"".join(held))
                         held.clear()
 
         slot = self.serve(act)
+        self.assertEqual(slot.get(1).counter, 1)
+        slot.sync()
+        freed.clear()
         slot.answer_us = 10_000
         for _ in range(2):
             self.assertRaises(NoAnswer, slot.get, 1)
@@ -127,12 +136,13 @@ class Made(unittest.TestCase):
 
         def act(taken: socket.socket) -> None:
             with taken.makefile("r") as said:
-                for text in ("0 silent 1", "0 value Valid 7 0b"):
+                for _ in range(2):
                     time.sleep(0.1)
                     came.extend(next(said).rstrip("\n") for _ in lines)
-                    taken.sendall(f"{text}\n".encode())
-                self.assertEqual([next(said), next(said)], ["get 1\n", "mark\n"])
-                taken.sendall(b"line fault Unknown\n")
+                    taken.sendall(b"0 silent 1\n")
+                self.asks(taken, said)
+                self.assertEqual([next(said), next(said)], ["get 1\n", "get mark\n"])
+                taken.sendall(b"0 value Valid 7 0b\nline fault BadWord\n")
 
         slot = self.serve(act)
         for line in lines:
@@ -148,8 +158,14 @@ class Made(unittest.TestCase):
         self.assertRaises(WrongAnswer, slot.get, 1)
 
     def test_a_call_is_made_once_where_the_connection_ends_behind_it(self) -> None:
-        said: list[bytes] = []
-        slot = self.serve(lambda taken: said.append(taken.recv(1000)), lambda taken: said.append(taken.recv(1000)))
+        said: list[str] = []
+
+        def act(taken: socket.socket) -> None:
+            with taken.makefile("r") as lines:
+                self.asks(taken, lines)
+                said.append(next(lines))
+
+        slot = self.serve(act, lambda taken: said.append(taken.recv(1000).decode()))
         with self.assertRaisesRegex(NoAnswer, "has ended: notify 1 "):
             slot.notify(1, "10.0.0.2:17225")
         self.assertEqual(len(said), 1)

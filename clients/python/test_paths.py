@@ -134,7 +134,7 @@ class Both(Clients):
             else:
                 with Slot(HOME, CONTROL + 1, answer_us=ANSWER_US, number=0) as slot:
                     slot.listen(1)
-        self.assertEqual(caught.exception.line, "1 done")
+        self.assertEqual(caught.exception.line, "1 refused NoHandle")
 
 
 class BothAtPorts(Both):

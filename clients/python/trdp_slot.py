@@ -95,11 +95,20 @@ class _Ended(NoAnswer):
 
 
 class OtherSlot(SlotError):
-    """The control port is that of another slot, which has taken the call. `line` is what it said."""
+    """The control port belongs to another slot; `line` is what it answered. The first call of a `Slot` has changed
+    nothing there, because the client asks before it. A later call, after a restart of the daemon with other ports, may
+    have taken effect in the other slot."""
 
     def __init__(self, place: str, number: int, line: str) -> None:
         super().__init__(f"{place} is the port of another slot than slot {number}: it says {_shown(line)}")
         self.line = line
+
+
+class OperatorsPort(SlotError):
+    """A `Slot` was made for the operator's port. Nothing was changed there."""
+
+    def __init__(self, place: str) -> None:
+        super().__init__(f"{place} is the operator's port, and no slot's")
 
 
 class WrongAnswer(SlotError):
@@ -710,6 +719,10 @@ def _read_line(line: str) -> _Said | None:
 # the next one.
 _MARKS = (("mark", "line fault Unknown"), ("get", "line fault Count"), ("get mark", "line fault BadWord"))
 _LINE_FAULT = re.compile("line fault [A-Z][A-Za-z0-9]*")
+# The operator's port answers each line of a slot so, marks too.
+_UNKNOWN = "line fault Unknown"
+# The first call at a port. It changes nothing, because no object has the handle 0, and its refusal names the slot.
+_QUESTION = ("get", "0")
 
 SLOTS_MOST = 16
 """The most slots of a node."""
@@ -919,9 +932,12 @@ class Slot:
     it is over. It isn't made for several clients of one slot: over UDP the node sends indications to where the latest
     line came from, and at a control socket a second one is `Busy`.
 
-    **A clean start.** Before the first call goes `reset`, so that the slot has no object of an earlier program; no
-    call is made before the answer to the mark after the last `reset` that was sent. `begin`, `sync`, `check` and
-    `send_line` send none. A client that only looks at the objects of another one has `reset=False`: `Slot.look`.
+    **A clean start.** Before its first call the client asks which slot the port belongs to, by `get 0`, which changes
+    no object: if it is another slot or the operator, the call raises OtherSlot or OperatorsPort. Then it sends `reset`,
+    so that the slot has no object of an earlier program; no call is made before the answer to the mark after the last
+    `reset` that was sent. `begin`, `sync`, `check` and `send_line` send neither. A client that only looks at the
+    objects of another one has `reset=False`: `Slot.look`. Over UDP even the question has the indications of that slot
+    come here, until the slot's own application sends its next line.
 
     **Answers.** An answer doesn't say to which call it is. So after each call goes a line that can't be read,
     whose fault marks the end of the call's answers: what comes between two marks is the answer. Over UDP, where one of
@@ -956,9 +972,9 @@ class Slot:
     `exec` doesn't have it.
 
     All calls raise Refused, TimeoutError where no answer came (Nobody, at once, where no one is at the port), Busy
-    where another application has the control socket, OtherSlot where another slot answers, WrongAnswer where no trdpd
-    does, ValueError or TypeError where an argument can't be in a line, and OSError where the system refuses, such as
-    PermissionError at a control socket.
+    where another application has the control socket, OtherSlot where another slot answers, OperatorsPort where the
+    operator's port does, WrongAnswer where no trdpd does, ValueError or TypeError where an argument can't be in a line,
+    and OSError where the system refuses, such as PermissionError at a control socket.
     """
 
     def __init__(self, config: str | os.PathLike[str], slot: int, /, *, controls: str | os.PathLike[str] | None = None,
@@ -1007,6 +1023,8 @@ class Slot:
         self._declared: list[Handle] = []
         self._highest = 0  # of the handles that the node gave
         self._start = 0  # how often the slot was seen to restart
+        self._is_sure = False  # whether the port has said that it is this slot's
+        self._unknown_due = 0  # until then: how many lines at this socket the operator's port has yet to answer
         self._is_reset_due = reset  # whether the slot has yet to be reset for this client
         self._is_whole = True  # whether all that was declared is there, as far as this client makes it again
         self._is_restart_untold = False  # whether the slot has restarted, and `check` hasn't said so
@@ -1042,8 +1060,8 @@ class Slot:
     def look(cls, config: str | os.PathLike[str], slot: int, /, *, datasets: Datasets | None = None,
              answer_us: int = 200_000, tries: int = 3, number: int | None = None) -> Self:
         """A client that only looks at the objects of another one, over UDP: it sends no `reset`. After each of its
-        calls the indications come to it, until the other one makes its next call. At a control socket no one can look
-        beside the application; there `Operator.slots` says what a slot has."""
+        calls, and of its question before them, the indications come to it, until the other one makes its next call. At
+        a control socket no one can look beside the application; there `Operator.slots` says what a slot has."""
         return cls(config, slot, datasets=datasets, answer_us=answer_us, tries=tries, reset=False, number=number)
 
     def close(self) -> None:
@@ -1239,6 +1257,7 @@ class Slot:
         again. Nothing is sent to the network. A second try does no harm. Returns once the answer to the mark after the
         last one that was sent has come. From then on this client has no objects that a restart could have ended, so
         `check` no longer reports an earlier restart."""
+        self._make_sure()
         self._reset_slot(self._tries(tries))
         for handle in [*self._handles.values(), *self._declared]:
             self._forget(handle)
@@ -1381,6 +1400,7 @@ class Slot:
                 time.sleep(_CONNECT)
         self._epoll.register(link, select.EPOLLIN)
         self._is_watched_out = False
+        self._unknown_due = 0
         return link
 
     def _not_there(self, fault: OSError) -> OSError:
@@ -1410,6 +1430,16 @@ class Slot:
         self._awaited.clear()
         if not is_nobody:
             self._send("#")
+
+    def _leave(self) -> None:
+        """Leaves a port that isn't this slot's: its own application can connect there, and what it still says is not
+        heard here."""
+        for link in self._links():
+            self._drop(link)
+        self._link = self._known = None
+        self._awaited.clear()
+        if self._path is None:
+            self._link = self._known = self._connected()
 
     def _end_link(self, is_busy: bool = False) -> NoReturn:
         """Takes notice of the end of the connection."""
@@ -1492,6 +1522,7 @@ class Slot:
         if self._link is None:
             self._link = self._known = self._connected()
         self._latest = time.monotonic()
+        self._unknown_due += line[:1] not in ("", "#")
         if not self._link.send(data):
             # What it said before it ended is read first, as it may be `busy`.
             while self._take_next(0.0) is not None:
@@ -1499,6 +1530,9 @@ class Slot:
             self._end_link()
 
     def _send_mark(self) -> None:
+        if not self._is_sure and _MARKS[self._marks % len(_MARKS)][1] == _UNKNOWN:
+            # The operator's port would answer this one as a slot's does.
+            self._marks += 1
         line, answer = _MARKS[self._marks % len(_MARKS)]
         self._marks += 1
         self._awaited.append(answer)
@@ -1603,7 +1637,7 @@ class Slot:
 
     def _take_next(self, end: float | None) -> list[list[str]] | None:
         """Takes what comes first: notes a mark, keeps indications. Answers the words of the answers among it; None
-        where nothing came. Raises OtherSlot and WrongAnswer, once the rest of it is taken, and Busy."""
+        where nothing came. Raises OtherSlot and WrongAnswer, once the rest of it is taken, OperatorsPort, and Busy."""
         lines = self._lines(end)
         if not lines:
             return None
@@ -1618,6 +1652,9 @@ class Slot:
             if link is self._link and line in self._awaited:
                 self._note_mark(line)
                 continue
+            if link is self._link and self._is_operators(line):
+                self._leave()
+                raise OperatorsPort(self._place_text())
             try:
                 words = self._keep(line)
             except (OtherSlot, WrongAnswer) as told:
@@ -1635,6 +1672,14 @@ class Slot:
         assert isinstance(link, _Path)
         is_first, link.is_first = link.is_first, False
         return is_first and line == "busy"
+
+    def _is_operators(self, line: str) -> bool:
+        """Whether this line shows that the port is the operator's: it knows none of those that were sent. A slot's port
+        knows the marks that are sent before the question is answered."""
+        if self._is_sure or line != _UNKNOWN:
+            return False
+        self._unknown_due -= 1
+        return self._unknown_due == 0 and bool(self._awaited)
 
     def _note_lost(self, lost: Lost) -> None:
         """Reports what was lost. The answer to a mark may be among it: then another mark goes after it."""
@@ -1820,12 +1865,30 @@ class Slot:
     # -- inside: objects -------------------------------------------------------
 
     def _prepare(self) -> None:
-        """Sees to it that the slot is as this client has it, before a call is made: that it was reset for it, and has
-        all that is to be made again."""
+        """Sees to it that the slot is as this client has it, before a call is made: that the port is the slot's, that
+        it was reset for this client, and has all that is to be made again."""
+        self._make_sure()
         if not self._is_whole:
             self._restore()
         elif self._is_reset_due:
             self._reset_slot(self.tries)
+
+    def _make_sure(self) -> None:
+        """Asks which slot the port belongs to, by a line that changes nothing, until that was answered once."""
+        if self._is_sure:
+            return
+        try:
+            try:
+                self._ask(_QUESTION, "value", self.tries)
+            except _Ended:
+                # Nothing was changed, so it asks again at the next connection.
+                self._ask(_QUESTION, "value", self.tries)
+        except Refused:
+            pass
+        except (OtherSlot, WrongAnswer):
+            self._leave()
+            raise
+        self._is_sure = True
 
     def _reset_slot(self, tries: int) -> None:
         """Resets the slot. Returns once the answer to the mark after the last `reset` has come, so that none
@@ -2308,7 +2371,13 @@ class Operator:
     def _wrong(self, line: str, answer: str) -> Exception:
         """What it is that a line has such an answer: a refusal, or none of trdpd."""
         refused = re.fullmatch("(?:line )?fault ([A-Z][A-Za-z0-9]*)", answer)
-        return Refused(refused[1], line) if refused else WrongAnswer(self._place_text(), answer)
+        if refused is None:
+            return WrongAnswer(self._place_text(), answer)
+        fault = Refused(refused[1], line)
+        if answer == _UNKNOWN:
+            # The operator's port knows all lines that are sent here.
+            fault.args = (f"{fault}: {self._place_text()} is a slot's port, and not the operator's",)
+        return fault
 
     def _place_text(self) -> str:
         return self.place if isinstance(self.place, str) else f"{self.place[0]}:{self.place[1]}"
