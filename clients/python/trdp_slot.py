@@ -120,6 +120,13 @@ class WrongAnswer(SlotError):
         self.line = line
 
 
+class AlreadyClosed(SlotError, ValueError):
+    """A `Slot`, `AsyncSlot` or `Operator` was used after its `close`. The call took no effect."""
+
+    def __init__(self, place: str) -> None:
+        super().__init__(f"the client of {place} is closed")
+
+
 class DoesNotFit(SlotError, ValueError):
     """A value isn't one of its dataset, or bytes aren't; the text names the place in the dataset."""
 
@@ -918,6 +925,7 @@ def _one_at_a_time(method: _Method) -> _Method:
     @functools.wraps(method)
     def call(self: Slot, *words: Any, **named: Any) -> Any:
         with self._lock:
+            self._must_be_open()
             try:
                 return method(self, *words, **named)
             finally:
@@ -966,15 +974,16 @@ class Slot:
     its latest line, where it waits: in calls, in `run` and in `indications`. No thread does that, so that a program
     that hangs says nothing.
 
-    **Threads and processes.** Several threads may make calls, also while one is in `run` or in `indications`. A child
+    **Threads and processes.** Several threads may make calls, also while one is in `run` or in `indications`. `close`
+    waits until the call of another thread is over; a thread in `run` or `indications` then gets AlreadyClosed. A child
     of `fork` has its parent's socket: it makes no calls, and closes its copy by `close`, which ends nothing of its
     parent's. As long as a child keeps a connection open, its parent's end doesn't end it. What a process becomes by
     `exec` doesn't have it.
 
     All calls raise Refused, TimeoutError where no answer came (Nobody, at once, where no one is at the port), Busy
     where another application has the control socket, OtherSlot where another slot answers, OperatorsPort where the
-    operator's port does, WrongAnswer where no trdpd does, ValueError or TypeError where an argument can't be in a line,
-    and OSError where the system refuses, such as PermissionError at a control socket.
+    operator's port does, WrongAnswer where no trdpd does, AlreadyClosed after `close`, ValueError or TypeError where an
+    argument can't be in a line, and OSError where the system refuses, such as PermissionError at a control socket.
     """
 
     def __init__(self, config: str | os.PathLike[str], slot: int, /, *, controls: str | os.PathLike[str] | None = None,
@@ -1040,6 +1049,9 @@ class Slot:
         self._tried = -math.inf  # when `run` looked at the objects last, or tried to make them again
         self._is_patient = True  # whether a connection is tried again for as long as an answer is waited for
         self._lock = threading.RLock()
+        self._process = os.getpid()  # which makes the calls
+        self._is_closed = False
+        self._waiting = 0  # how many threads wait at `_epoll`
         self._place = place
         # What `fileno` gives: it has the sockets, and a bell that rings as long as an indication waits.
         self._epoll = select.epoll()
@@ -1065,16 +1077,43 @@ class Slot:
         return cls(config, slot, datasets=datasets, answer_us=answer_us, tries=tries, reset=False, number=number)
 
     def close(self) -> None:
-        """Closes the socket or the connection. Over UDP the objects stay as they are, up to the daemon's lease. The end
-        of a connection resets the slot, unless another process keeps it open."""
-        for held in (*self._links(), self._epoll, self._bell, self._rope):
-            held.close()
+        """Closes the socket or the connection, once the call of another thread is over. Over UDP the objects stay as
+        they are, up to the daemon's lease. The end of a connection resets the slot, unless another process keeps it
+        open. All that is called later raises AlreadyClosed, and so does `run` in another thread, and each other wait
+        for an indication. A second `close` does nothing."""
+        lock: contextlib.AbstractContextManager[Any] = self._lock
+        if os.getpid() != self._process:
+            # A thread may have the lock, or wait, that this child of `fork` doesn't have.
+            lock, self._waiting = contextlib.nullcontext(), 0
+        with lock:
+            if self._is_closed:
+                return
+            self._is_closed = True
+            for link in self._links():
+                link.close()
+            if self._waiting and not self._is_shown:
+                # From now on the bell rings. Its end would not do that while a child of `fork` has the rope.
+                self._rope.send(b"!")
+            self._close_bell()
+
+    def _close_bell(self) -> None:
+        """Closes what threads wait at, if the client is closed and none waits any more."""
+        if self._is_closed and self._waiting == 0:
+            self._epoll.close()
+            self._bell.close()
+            self._rope.close()
+
+    def _must_be_open(self) -> None:
+        """Raises AlreadyClosed after `close`."""
+        if self._is_closed:
+            raise AlreadyClosed(self._place_text())
 
     def fileno(self) -> int:
         """A descriptor that can be read from where something may be there for `next_indication(0)`, until that answers
         None; it stays the same. It is for `select` and the like alone. A program that waits at it calls
         `next_indication(0)` now and then also where nothing is there, so that the lease is kept, and `check`, so that a
         restart is noticed."""
+        self._must_be_open()
         return self._epoll.fileno()
 
     def __enter__(self) -> Slot:
@@ -1284,12 +1323,12 @@ class Slot:
             now = time.monotonic()
             if end is not None and now >= end:
                 return None
-            # Without the lock, so that other threads make calls meanwhile.
-            self._epoll.poll(min(_WAIT_MOST, max(0.0, min(math.inf if end is None else end, self._due()) - now)))
+            self._wait_for_news(min(_WAIT_MOST, max(0.0, min(math.inf if end is None else end, self._due()) - now)))
 
     def on(self, kind: type[Any], callback: Callable[[Any], object]) -> None:
         """Has `run` call `callback` with each indication of that kind, as `slot.on(Silent, print)`. Several
         callbacks of a kind are called in the order in which they were given. Each may make calls."""
+        self._must_be_open()
         if kind not in get_args(Indication):
             raise TypeError(f"kind is {_shown(kind)}, and no kind of indication, as Silent")
         if not callable(callback):
@@ -1364,6 +1403,7 @@ class Slot:
         port, or the connection has ended."""
         end = _end_of(time_us)
         while True:
+            self._must_be_open()
             link = self._link
             if link is not None and (came := link.take()):
                 return next(iter(it for it in came if isinstance(it, str)), f"lost {came[0].texts}"
@@ -1492,7 +1532,7 @@ class Slot:
 
     def _show(self) -> None:
         """Has `fileno` say whether something is there."""
-        if self._epoll.closed:
+        if self._is_closed:
             return
         is_there = bool(self._told) or self._link is not None and self._link.has_line
         if is_there != self._is_shown:
@@ -1791,10 +1831,24 @@ class Slot:
             self._attend(may_wait)
         return self._told.popleft() if self._told else None
 
-    @_one_at_a_time
     def _hand_back(self, told: Indication) -> None:
         """Has an indication be the next one again."""
-        self._told.appendleft(told)
+        with self._lock:
+            self._told.appendleft(told)
+            self._show()
+
+    def _wait_for_news(self, seconds: float) -> None:
+        """Waits until something came, that many seconds at most; without the lock, so that other threads make calls
+        meanwhile."""
+        with self._lock:
+            self._must_be_open()
+            self._waiting += 1
+        try:
+            self._epoll.poll(seconds)
+        finally:
+            with self._lock:
+                self._waiting -= 1
+                self._close_bell()
 
     def _take_what_is_there(self) -> None:
         """Takes what has come, until there is an indication."""
@@ -2170,7 +2224,7 @@ class AsyncSlot:
 
     async def close(self) -> None:
         """Closes the client, once the call that is under way is over. A task that waits for an indication learns that
-        none comes any more."""
+        none comes any more, and later calls raise AlreadyClosed. A second `close` does nothing."""
         self._is_closed = True
         self._heard.set()
         async with self._hearing, self._turn:
@@ -2226,6 +2280,7 @@ class AsyncSlot:
         """Makes a call once it has its turn, which is over when the call is, also where it is cancelled before."""
         await self._turn.acquire()
         try:
+            self.slot._must_be_open()
             made = asyncio.get_running_loop().run_in_executor(self._worker, call)
         except BaseException:
             self._turn.release()
@@ -2305,12 +2360,12 @@ _USAGE = re.compile("([0-9]+)" + " ([0-9]+)/([0-9]+)" * len(Kinds._fields) + " (
 
 
 class Operator:
-    """The operator of a node, at its operator's port: what concerns all slots.
+    """The operator of a node, at its operator's port: what concerns all slots. It can be used in a `with` block.
 
     Each line goes from a socket or a connection of its own, so that no answer is taken for that of another line. Each
     method raises Refused with the fault's name (NoGroup, SlotsFull), TimeoutError where no answer came (Nobody, at
-    once, where no one is there), Busy where four other operators have the control socket, and WrongAnswer where no
-    trdpd answers."""
+    once, where no one is there), Busy where four other operators have the control socket, WrongAnswer where no trdpd
+    answers, and AlreadyClosed after `close`."""
 
     def __init__(self, address: str, port: int | None = None, *, answer_us: int = 200_000, tries: int = 3) -> None:
         """The operator at that address and port, as 127.0.0.1 and 18100, or at the control socket of that path, as
@@ -2324,6 +2379,18 @@ class Operator:
             self.place = (_address_word("address", address), _whole("port", cast(int, port), 1, 0xFFFF))
         self.answer_us = _whole("answer_us", answer_us, 1)
         self.tries = _whole("tries", tries, 1)
+        self._is_closed = False
+
+    def close(self) -> None:
+        """Ends the operator: later calls raise AlreadyClosed. Between two calls it has nothing open. A second `close`
+        does nothing."""
+        self._is_closed = True
+
+    def __enter__(self) -> Self:
+        return self
+
+    def __exit__(self, *_: object) -> None:
+        self.close()
 
     def topology(self, etb: int, op_trn: int) -> None:
         """The train's network has these topology counters from now on. A second try does no harm."""
@@ -2384,6 +2451,8 @@ class Operator:
 
     def _answer(self, line: str, tries: int) -> str:
         """The answer to a line, without the end of its last line."""
+        if self._is_closed:
+            raise AlreadyClosed(self._place_text())
         if isinstance(self.place, str):
             return self._answer_of(self.place, line, tries)
         for _ in range(tries):
