@@ -1,0 +1,182 @@
+#!/usr/bin/env python3
+"""Which program is proved: a file beside each program says of which sources it was made, and what its own sum is.
+
+    package/record.py state                 prints `proved PATH`, `unproved PATH` or `none`: the program that runs here
+    package/record.py digest                prints the digest of all that a proof reads, as it is now
+    package/record.py write KIND DIGEST     notes that the program of that kind was made of the sources of that digest
+    package/record.py show                  prints the record of the program that runs here
+
+KIND is `proved` or `unproved`. A record counts only if its digest is that of the tree as it is now, and its sum that of
+the program as it is now. So a changed definition, a changed comment and a replaced program are not called proved, and a
+file that was only touched changes nothing. `write` notes nothing, with status 1, if the tree has another digest by now.
+
+The digest is the SHA-256 of HANDLES, crates.txt, the files in src/, specs/ and proofs/ of each crate that the program
+stands on, and the kit's logic. Without the kit on PATH the kit that the record names counts.
+"""
+from __future__ import annotations
+
+import hashlib
+import os
+import pathlib
+import re
+import shutil
+import subprocess
+import sys
+from collections.abc import Iterator
+from typing import NamedTuple
+
+TOP = pathlib.Path(__file__).resolve().parent.parent
+PROGRAM = "trdpd"
+PLACES = {"proved": f"crates/{PROGRAM}/out/{PROGRAM}", "unproved": f"out/unproved/{PROGRAM}"}
+PARTS = ("src", "specs", "proofs")
+KEYS = ("kind", "digest", "program", "kit", "commit")
+
+
+class Record(NamedTuple):
+    """What a program was made of."""
+
+    kind: str
+    """`proved` or `unproved`."""
+    digest: str
+    """The digest of the sources."""
+    program: str
+    """The SHA-256 of the program."""
+    kit: str
+    """The kit, as `rt version` prints it."""
+    commit: str
+    """The commit; with `and changes` if files differed from it."""
+
+    def text(self) -> str:
+        """The record's file."""
+        return "".join(f"{key} {value}\n" for key, value in zip(KEYS, self))
+
+
+class Mismatch(Exception):
+    """Why a record isn't written."""
+
+
+def sum_of(path: pathlib.Path) -> str:
+    """The SHA-256 of a file."""
+    with path.open("rb") as file:
+        return hashlib.file_digest(file, "sha256").hexdigest()
+
+
+def crates_below(top: pathlib.Path) -> set[str]:
+    """The crates that the program stands on, and its own."""
+    lines = [line.split("#")[0].partition(":") for line in (top / "crates.txt").read_text().splitlines()]
+    below = {name.split()[0]: crates.split() for name, _, crates in lines if name.strip()}
+    found: set[str] = set()
+    left = [PROGRAM]
+    while left:
+        name = left.pop()
+        if name in below and name not in found:
+            found.add(name)
+            left += below[name]
+    return found
+
+
+def files_read(top: pathlib.Path) -> Iterator[pathlib.Path]:
+    """The files that a proof of the program reads."""
+    yield from (it for it in (top / "HANDLES", top / "crates.txt") if it.exists())
+    for name in crates_below(top):
+        for part in PARTS:
+            yield from (it for it in (top / "crates" / name / part).rglob("*") if it.is_file())
+
+
+def digest_of(top: pathlib.Path, kit: str) -> str:
+    """The digest of all that a proof by that kit reads."""
+    total = hashlib.sha256()
+    for path in sorted(files_read(top)):
+        total.update(f"{sum_of(path)}  {path.relative_to(top).as_posix()}\n".encode())
+    total.update(f"{kit.rpartition(' ')[2]}  logic\n".encode())
+    return total.hexdigest()
+
+
+def kit_line() -> str | None:
+    """The kit, as `rt version` prints it; None if it isn't there. Its file is read, since `rt` takes longer to start."""
+    found = shutil.which(os.environ.get("RT") or "rt")
+    if found is None:
+        return None
+    try:
+        return (pathlib.Path(found).resolve().parent.parent / "KIT-ID").read_text().strip()
+    except OSError:
+        ran = subprocess.run([found, "version"], capture_output=True, text=True)
+        return ran.stdout.strip() or None
+
+
+def commit_of(top: pathlib.Path) -> str:
+    """The commit of a tree, with `and changes` if files differ from it."""
+    def git(*words: str) -> str:
+        ran = subprocess.run(["git", "-C", str(top), *words], capture_output=True, text=True)
+        return ran.stdout.strip() if ran.returncode == 0 else ""
+
+    if not (top / ".git").exists() or not (commit := git("rev-parse", "HEAD")):
+        return "unknown"
+    return f"{commit} and changes" if git("status", "--porcelain", "--untracked-files=no") else commit
+
+
+def record_place(program: pathlib.Path) -> pathlib.Path:
+    """The record's file beside a program."""
+    return program.with_name(f"{program.name}.record")
+
+
+def read_record(program: pathlib.Path) -> Record | None:
+    """The record of a program; None if there is none that can be read, or the program is another one."""
+    try:
+        lines = record_place(program).read_text("utf-8").splitlines()
+        found = dict(line.partition(" ")[::2] for line in lines)
+        record = Record(*(found[key] for key in KEYS))
+        return record if os.access(program, os.X_OK) and sum_of(program) == record.program else None
+    except (OSError, KeyError, UnicodeDecodeError):
+        return None
+
+
+def current(top: pathlib.Path) -> tuple[pathlib.Path, Record] | None:
+    """The program that runs here, and its record: the proved one, if there is one of the tree as it is, and else the one
+    that was compiled of it without proof."""
+    kit = kit_line()
+    for kind, place in PLACES.items():
+        program = top / place
+        record = read_record(program)
+        if record and record.kind == kind and record.digest == digest_of(top, kit or record.kit):
+            return program, record
+    return None
+
+
+def write(top: pathlib.Path, kind: str, digest: str) -> None:
+    """Notes what a program was made of. Raises Mismatch if the tree or the program isn't what it was."""
+    program = top / PLACES[kind]
+    kit = kit_line()
+    if kit is None:
+        raise Mismatch("the Rattle kit isn't there any more")
+    if digest_of(top, kit) != digest:
+        raise Mismatch("a source has changed meanwhile: begin again")
+    record = Record(kind, digest, sum_of(program), kit, commit_of(top))
+    part = record_place(program).with_suffix(".part")
+    part.write_text(record.text(), "utf-8")
+    part.replace(record_place(program))
+
+
+def main(words: list[str]) -> int:
+    match words:
+        case ["state"]:
+            found = current(TOP)
+            print(f"{found[1].kind} {found[0]}" if found else "none")
+        case ["digest"]:
+            print(digest_of(TOP, kit_line() or ""))
+        case ["show"] if found := current(TOP):
+            print(found[1].text(), end="")
+        case ["write", kind, digest] if kind in PLACES and re.fullmatch("[0-9a-f]{64}", digest):
+            try:
+                write(TOP, kind, digest)
+            except (Mismatch, OSError) as why:
+                print(f"run: {why}", file=sys.stderr)
+                return 1
+        case _:
+            print("usage: package/record.py state | digest | show | write KIND DIGEST", file=sys.stderr)
+            return 2
+    return 0
+
+
+if __name__ == "__main__":
+    sys.exit(main(sys.argv[1:]))

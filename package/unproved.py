@@ -1,0 +1,127 @@
+#!/usr/bin/env python3
+"""Compiles the program without proof, optimised, into the file that is named.
+
+    package/unproved.py FILE
+
+The kit's `rt try` compiles a program without proof and runs it, but it neither optimises nor keeps it. So it is run over
+a folder of links to the kit, in which clang is a script that optimises, and the linker one that keeps the first program.
+It is run in a copy of the tree, whose program says `not proved` where the proved one names its logic. The status is 1,
+with the reason, if nothing was compiled.
+"""
+from __future__ import annotations
+
+import os
+import pathlib
+import shutil
+import subprocess
+import sys
+import tempfile
+
+TOP = pathlib.Path(__file__).resolve().parent.parent
+# What the program says of its proof, and what it says without one.
+CLAIM, NO_CLAIM = "proved with logic {LOGIC}", "not proved"
+# clang is called with -O0: for the program, and then for one that checks its accesses. The latter isn't kept, so that it
+# is compiled as fast as possible.
+CLANG = """#!/bin/sh
+case " $* " in *" -fsanitize=address "*) level=-O0 ;; *) level=-O2 ;; esac
+for word; do
+    shift
+    case $word in
+        -O0) set -- "$@" "$level" ;;
+        -fsanitize=address) ;;
+        *) set -- "$@" "$word" ;;
+    esac
+done
+exec "{clang}" "$@"
+"""
+LINKER = """#!/bin/sh
+"{linker}" "$@" || exit
+while [ $# -gt 1 ]; do
+    if [ "$1" = -o ] && [ ! -e "{kept}" ]; then cp "$2" "{kept}"; fi
+    shift
+done
+"""
+
+
+class NoProgram(Exception):
+    """Why nothing was compiled."""
+
+
+def link_all(source: pathlib.Path, target: pathlib.Path, *but: str) -> None:
+    """Makes a folder of links to what is in another one, except for these names."""
+    target.mkdir()
+    for path in source.iterdir():
+        if path.name not in but:
+            (target / path.name).symlink_to(path)
+
+
+def write_script(path: pathlib.Path, text: str) -> None:
+    """Writes a script that can be run."""
+    path.write_text(text)
+    path.chmod(0o755)
+
+
+def make_kit(kit: pathlib.Path, copy: pathlib.Path, kept: pathlib.Path) -> None:
+    """Makes the folder of links to the kit, whose linker keeps the first program at that path."""
+    link_all(kit, copy, "bin", "toolchain")
+    link_all(kit / "bin", copy / "bin", "rt", "rtlib.py", "rattle")
+    # `rt` finds the rest of its kit beside its own file. While it compiles, `rattle` looks for hints, which takes a minute.
+    for name in ("rt", "rtlib.py"):
+        shutil.copy(kit / "bin" / name, copy / "bin")
+    write_script(copy / "bin/rattle", "#!/bin/sh\nexit 1\n")
+    tools = kit / "toolchain/bin"
+    link_all(kit / "toolchain", copy / "toolchain", "bin")
+    link_all(tools, copy / "toolchain/bin", "clang", "ld.lld")
+    write_script(copy / "toolchain/bin/clang", CLANG.format(clang=tools / "clang"))
+    write_script(copy / "toolchain/bin/ld.lld", LINKER.format(linker=tools / "ld.lld", kept=kept))
+
+
+def copy_tree(copy: pathlib.Path) -> pathlib.Path:
+    """Copies the sources, in which the program claims no proof. Answers the folder of the program's crate."""
+    shutil.copytree(TOP / "crates", copy / "crates", ignore=shutil.ignore_patterns("out", "proofs", "must-fail"))
+    for name in ("crates.txt", "HANDLES"):
+        shutil.copy(TOP / name, copy)
+    main = copy / "crates/trdpd/src/main.rt"
+    text = main.read_text("utf-8")
+    if text.count(CLAIM) != 1:
+        raise NoProgram(f"{main.relative_to(copy)} doesn't say {CLAIM!r} once")
+    main.write_text(text.replace(CLAIM, NO_CLAIM), "utf-8")
+    subprocess.run(["git", "init", "-q", copy], check=True)
+    return main.parent.parent
+
+
+def build(target: pathlib.Path, scratch: pathlib.Path) -> None:
+    """Compiles the program into that file."""
+    found = shutil.which(os.environ.get("RT") or "rt")
+    if found is None:
+        raise NoProgram("the Rattle kit's command rt must be on PATH, or its path in RT")
+    kept = scratch / "program"
+    make_kit(pathlib.Path(found).resolve().parent.parent, scratch / "kit", kept)
+    (scratch / "tree").mkdir()
+    crate = copy_tree(scratch / "tree")
+    words = [scratch / "kit/bin/rt", "try", "--", "--version"]
+    ran = subprocess.run(words, cwd=crate, stdin=subprocess.DEVNULL, capture_output=True, text=True)
+    if not kept.exists():
+        raise NoProgram(f"rt try said: {ran.stderr.strip() or ran.stdout.strip()}")
+    target.parent.mkdir(parents=True, exist_ok=True)
+    part = target.with_suffix(".part")
+    shutil.copy(kept, part)
+    part.chmod(0o755)
+    part.replace(target)
+
+
+def main(words: list[str]) -> int:
+    if len(words) != 1:
+        print("usage: package/unproved.py FILE", file=sys.stderr)
+        return 2
+    try:
+        with tempfile.TemporaryDirectory() as scratch:
+            build(pathlib.Path(words[0]).absolute(), pathlib.Path(scratch))
+    except (NoProgram, OSError, subprocess.CalledProcessError) as why:
+        print(f"run: {why}", file=sys.stderr)
+        return 1
+    return 0
+
+
+if __name__ == "__main__":
+    sys.exit(main(sys.argv[1:]))
