@@ -38,7 +38,7 @@ COMPLETE = """\
 COMP_WORDS=(trdpd daemon x --l); COMP_CWORD=3; _trdpd; echo "${COMPREPLY[*]}"
 COMP_WORDS=(trdpd s); COMP_CWORD=1; _trdpd; echo "${COMPREPLY[*]}"
 """
-WORDS = ("prove", "run", "check", "daemon", "serve", "package", "help", "--help")
+WORDS = ("build", "prove", "run", "check", "daemon", "serve", "package", "help", "--version", "--help")
 # What is changed in a file of a copy, and why it isn't packed then.
 REFUSED = (
     ("crates/trdpd/src/version.rt", "pub const", "const", "crates/trdpd/src/version.rt names no version"),
@@ -154,6 +154,15 @@ def look_at_page(folder: pathlib.Path, tool: str) -> None:
                f"{tool}: of its page {sorted(described)}, named there {sorted(named)}, of its help {sorted(helped)}")
 
 
+def look_at_proof(folder: pathlib.Path, program: pathlib.Path) -> None:
+    """Looks whether the package says what the program was proved of."""
+    record = program.with_name(f"{program.name}.record")
+    wanted = record.read_text() if record.exists() else "not proved\n"
+    wanted = wanted if wanted.startswith("kind proved\n") else "not proved\n"
+    found = (folder / "usr/share/doc/trdpd/proof").read_text()
+    Looks.look(found == wanted, f"proof: {found!r}, and not {wanted!r}")
+
+
 def look_at_installed_node(folder: pathlib.Path) -> None:
     """Looks whether an application and an operator can call the node of a fresh install, as the unit starts it."""
     unit = (folder / "usr/lib/systemd/system/trdpd.service").read_text()
@@ -209,7 +218,7 @@ def look_at_refusal(folder: pathlib.Path, program: str, why: str, **changes: str
 def look_at_words(folder: pathlib.Path) -> None:
     """Looks what ./run says where nothing is built."""
     asked, bare, packed = (run(f"./run {word}".split(), folder) for word in ("--help", "", "package"))
-    named = [line.split()[0] for line in asked.stdout.splitlines()[2:]]
+    named = re.findall(r"^  (\S+)", asked.stdout, re.MULTILINE)
     Looks.look((asked.returncode, asked.stderr, named) == (0, "", [*WORDS]), f"./run --help: {asked}")
     Looks.look((bare.returncode, bare.stdout, bare.stderr) == (2, "", asked.stdout), f"./run: {bare}")
     why = "run: a package has the proved program: ./run prove proves and builds it first, once\n"
@@ -226,6 +235,7 @@ def main(program: str = f"{TOP}/crates/trdpd/out/trdpd") -> int:
         Looks.look(first == second, "two copies give other bytes")
         unpacked = pathlib.Path(scratch, "unpacked")
         unpack(first, unpacked)
+        look_at_proof(unpacked, pathlib.Path(program))
         if unpacked.exists():
             look_into(unpacked)
     print(f"{Looks.made} looked at, {Looks.differ} differ")

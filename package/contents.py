@@ -165,9 +165,10 @@ def program_files(program: bytes) -> Iterator[File]:
     yield File("etc/trdpd/node.toml", settings.encode())
 
 
-def package_files(program: bytes, number: str, day: str) -> list[File]:
-    """All files of the package, in the order of their paths."""
+def package_files(program: bytes, proof: str, number: str, day: str) -> list[File]:
+    """All files of the package, in the order of their paths. `proof` says what the program was proved of."""
     found = [*program_files(program), *client_files(number), *page_files(), *document_files()]
+    found.append(File(f"{DOC}/proof", proof.encode()))
     found.append(File(f"{DOC}/copyright", copyright_text().encode()))
     found.append(File(f"{DOC}/changelog.gz", changelog(number, day)))
     found.append(File("usr/share/lintian/overrides/trdpd", filled("lintian-overrides").encode()))

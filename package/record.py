@@ -93,7 +93,7 @@ def digest_of(top: pathlib.Path, kit: str) -> str:
 
 
 def kit_line() -> str | None:
-    """The kit, as `rt version` prints it; None if it isn't there. Its file is read, since `rt` takes longer to start."""
+    """The kit, as `rt version` prints it; None if it isn't there. Its file is read, since `rt` starts slowly."""
     found = shutil.which(os.environ.get("RT") or "rt")
     if found is None:
         return None
@@ -132,8 +132,8 @@ def read_record(program: pathlib.Path) -> Record | None:
 
 
 def current(top: pathlib.Path) -> tuple[pathlib.Path, Record] | None:
-    """The program that runs here, and its record: the proved one, if there is one of the tree as it is, and else the one
-    that was compiled of it without proof."""
+    """The program that runs here, and its record: the proved one, if there is one of the tree as it is, and else the
+    one that was compiled of it without proof."""
     kit = kit_line()
     for kind, place in PLACES.items():
         program = top / place

@@ -3,10 +3,10 @@
 
     package/unproved.py FILE
 
-The kit's `rt try` compiles a program without proof and runs it, but it neither optimises nor keeps it. So it is run over
-a folder of links to the kit, in which clang is a script that optimises, and the linker one that keeps the first program.
-It is run in a copy of the tree, whose program says `not proved` where the proved one names its logic. The status is 1,
-with the reason, if nothing was compiled.
+The kit's `rt try` compiles a program without proof and runs it, but it neither optimises nor keeps it. So it is run
+over a folder of links to the kit, in which clang is a script that optimises, and the linker one that keeps the first
+program. It is run in a copy of the tree, whose program says `not proved` where the proved one names its logic. The
+status is 1, with the reason, if nothing was compiled.
 """
 from __future__ import annotations
 
@@ -20,8 +20,8 @@ import tempfile
 TOP = pathlib.Path(__file__).resolve().parent.parent
 # What the program says of its proof, and what it says without one.
 CLAIM, NO_CLAIM = "proved with logic {LOGIC}", "not proved"
-# clang is called with -O0: for the program, and then for one that checks its accesses. The latter isn't kept, so that it
-# is compiled as fast as possible.
+# clang is called with -O0: for the program, and then for one that checks its accesses. The latter isn't kept, so that
+# it is compiled as fast as possible.
 CLANG = """#!/bin/sh
 case " $* " in *" -fsanitize=address "*) level=-O0 ;; *) level=-O2 ;; esac
 for word; do
@@ -65,7 +65,7 @@ def make_kit(kit: pathlib.Path, copy: pathlib.Path, kept: pathlib.Path) -> None:
     """Makes the folder of links to the kit, whose linker keeps the first program at that path."""
     link_all(kit, copy, "bin", "toolchain")
     link_all(kit / "bin", copy / "bin", "rt", "rtlib.py", "rattle")
-    # `rt` finds the rest of its kit beside its own file. While it compiles, `rattle` looks for hints, which takes a minute.
+    # `rt` finds the rest of its kit beside its own file. `rattle` would look for hints meanwhile, for a minute.
     for name in ("rt", "rtlib.py"):
         shutil.copy(kit / "bin" / name, copy / "bin")
     write_script(copy / "bin/rattle", "#!/bin/sh\nexit 1\n")
@@ -99,7 +99,7 @@ def build(target: pathlib.Path, scratch: pathlib.Path) -> None:
     make_kit(pathlib.Path(found).resolve().parent.parent, scratch / "kit", kept)
     (scratch / "tree").mkdir()
     crate = copy_tree(scratch / "tree")
-    words = [scratch / "kit/bin/rt", "try", "--", "--version"]
+    words = [str(scratch / "kit/bin/rt"), "try", "--", "--version"]
     ran = subprocess.run(words, cwd=crate, stdin=subprocess.DEVNULL, capture_output=True, text=True)
     if not kept.exists():
         raise NoProgram(f"rt try said: {ran.stderr.strip() or ran.stdout.strip()}")
