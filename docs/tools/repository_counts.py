@@ -2,7 +2,6 @@
 and trees of calls, and the configurations with all keys."""
 from __future__ import annotations
 
-import ast
 import functools
 import itertools
 import re
@@ -39,10 +38,7 @@ ALL_KEYS = "A key that isn't named here is ignored"
 BUILD = re.compile(r"(\d+ to \d+) minutes on\s+four processors")
 # How a text tells a number, and what it is the number of.
 TOLD = (
-    (r"examples: (\d+) played", "examples"),
     (r"rows: (\d+) played", "rows"),
-    (r"forms: (\d+) lines played", "forms"),
-    (r"checks: (\d+) passed", "checks"),
     (r"(\d[\d,]*)\s+(?:short\s+)?scripts\b", "scripts"),
     (r"(\d[\d,]*)\s+configurations\s+that\s+aren't\s+taken", "configurations"),
     (r"(\d[\d,]*)\s+rows\b", "rows"),
@@ -58,25 +54,14 @@ def line_of(text: str, place: int) -> int:
     return text.count("\n", 0, place) + 1
 
 
-def form_lines() -> int:
-    """How many lines rows/forms plays: of each form the good one, and three for each of its words."""
-    for node in ast.parse((TOP / "rows" / "forms").read_text()).body:
-        if isinstance(node, ast.Assign) and ast.unparse(node.targets[0]) == "FORMS":
-            forms = str(ast.literal_eval(node.value)).strip("\n").split("\n\n")
-            return sum(1 + 3 * len(form.split("\n")[0].split(" ")) for form in forms)
-    return 0
-
-
 def counted() -> dict[str, int]:
     """What there is of each thing of which a text may tell the number."""
     rows = [row for path in TOP.glob("rows/*.rows")
             for row in re.split(r"^== ", path.read_text(), flags=re.MULTILINE)[1:]]
     refused = sum("\n  ! config fault" in row for row in rows)
-    checks = (TOP / "bench" / "checks").read_text()
     return {
         "rows": len(rows), "configurations": refused, "scripts": len(rows) - refused,
         "examples": len([*TOP.glob("examples/*.script"), *TOP.glob("examples/*/*.script")]),
-        "forms": form_lines(), "checks": len(re.findall(r'^check "', checks, re.MULTILINE)),
         "crates": len(crate_lines()),
         "edits": len(list(TOP.glob("crates/*/must-fail/*.edit"))),
         "tests": sum(path.read_text().count("#[test]") for path in TOP.glob("crates/*/src/**/*.rt")),

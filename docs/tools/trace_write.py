@@ -4,6 +4,7 @@ from __future__ import annotations
 import textwrap
 from collections.abc import Iterable
 
+import gate_lines
 from trace_check import Trace
 from trace_pages import TOPICS, Rule
 
@@ -79,8 +80,10 @@ def counts(trace: Trace) -> str:
 
 
 def written(trace: Trace) -> str:
-    """The page."""
-    parts = [(trace.top / FRONT).read_text().rstrip(), "## The rules by topic", counts(trace)]
+    """The page. Raises gate_lines.Fault if docs/gate.json is of no use."""
+    last_run = gate_lines.page_lines(gate_lines.last_run(trace.top))
+    front = (trace.top / FRONT).read_text().rstrip().replace(gate_lines.MARK, last_run)
+    parts = [front, "## The rules by topic", counts(trace)]
     for topic, (heading, _) in TOPICS.items():
         rules = [rule for rule in trace.rules if rule.topic == topic]
         if rules:
