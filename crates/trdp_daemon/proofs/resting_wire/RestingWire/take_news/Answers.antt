@@ -10,6 +10,10 @@ returns-then-not-self-clause-takes g c =
     rw (there, c.set_news.ensures) (record {
       heard = c.ask-found.result.1;
       takes = c.ask-found.ensures.takes;
-      is = rw (c.ask-found.ensures.kept, c.if-heard.false, c.if-not-self.true,
-          ← or_false c.args.self.now.heard) refl;
+      is = rw (
+        c.ask-found.ensures.kept,
+        c.if-heard.false,
+        c.if-not-self.true,
+        ← or_false c.args.self.now.heard,
+      ) refl;
     })
