@@ -1,7 +1,7 @@
 #!/usr/bin/env python3
 """What an event costs where slots have many objects: nanoseconds of processor time of `trdpd run`.
 
-    bench/many_objects.py [LINES] [PROGRAM]       default: 400000 lines, crates/trdpd/out/trdpd (./run builds it)
+    bench/many_objects.py [LINES] [PROGRAM]       default: 400000 lines, crates/trdpd/out/trdpd (./run prove builds it)
 
 Each row plays a script of LINES equal lines from a file to a file, with its number of objects open, and again without
 them: the cost of a line is that of the longer script less that of its first half, the least of five runs. Reading and

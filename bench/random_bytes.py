@@ -2,7 +2,7 @@
 """Random bytes at every port of a daemon: whether it lives, answers, and holds no more memory.
 
     bench/random_bytes.py [DATAGRAMS [SECONDS [SEED [PROGRAM]]]]
-                          default: 200000 datagrams, at most 60 s, seed 1, crates/trdpd/out/trdpd (./run builds it)
+                          default: 200000 datagrams, at most 60 s, seed 1, crates/trdpd/out/trdpd
 
 Starts `trdpd serve` at 127.0.0.1 with a port of each kind and a publisher that sends every millisecond, and sends
 datagrams of 0 to 65507 bytes, the most that UDP carries, round after round: one at each port, and then a line at the

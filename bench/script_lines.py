@@ -1,7 +1,7 @@
 #!/usr/bin/env python3
 """How fast trdpd plays scripts: lines a second of processor time, and the most memory that it held.
 
-    bench/script_lines.py [LINES] [PROGRAM]       default: 1000000 lines, crates/trdpd/out/trdpd (./run builds it)
+    bench/script_lines.py [LINES] [PROGRAM]       default: 1000000 lines, crates/trdpd/out/trdpd (./run prove builds it)
 
 Two scripts of that many lines over examples/node.toml are played from a file to a file: puts alone, and a mix of
 moments, puts, datagrams that a subscription takes, and gets. The telegrams' frame checks are zlib's.

@@ -1,7 +1,7 @@
 #!/usr/bin/env python3
 """What `trdpd serve` costs: processor time a turn and a datagram, against a bare loop over the same sockets.
 
-    bench/serve.py [TURNS] [PROGRAM]              default: 200000 turns, crates/trdpd/out/trdpd (./run builds it)
+    bench/serve.py [TURNS] [PROGRAM]              default: 200000 turns, crates/trdpd/out/trdpd (./run prove builds it)
 
 bench/bare_loop.rs, which rustc builds, is that loop: the same clock, ports, turns and numbers of datagrams of the same
 size, and no protocol. Each row is run up to three times, one program after the other, and the least processor time
