@@ -161,7 +161,7 @@ class Applications(AtPaths):
         return text.startswith(b"0 handle ")
 
     def test_what_is_said_at_a_spare_path_waits_for_its_slot(self) -> None:
-        # rule: slot.port
+        # rule: slot.port: the first spare path is the added slot's, and answers for slot 1
         self.starts(control(0), more=f"spare_control_ports = [{CONTROL + 1}]\n")
         application = self.connects(CONTROL + 1)
         application.say(b"get 1", b"get 2")

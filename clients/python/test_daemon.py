@@ -49,7 +49,8 @@ class ProcessData(Case):
         self.assertEqual(self.told(self.desk, Alive), Alive(zero))
 
     def test_before_the_first_telegram_the_value_is_zero(self) -> None:
-        # rule: subscription.first dataset.zero
+        # rule: subscription.first: Never, counter 0 and the zero value
+        # rule: dataset.zero: numbers are 0, and the counted array is empty
         self.assertEqual(self.desk.get(self.desk.subscribe(100, dataset=1002)), ("Never", 0, [0, (0, 0), [0, []]]))
         self.assertEqual(self.desk.get(self.desk.subscribe(100)), ("Never", 0, b""))
 
@@ -70,7 +71,7 @@ class ProcessData(Case):
         self.refused("NoHandle", self.desk.pull, requester)
 
     def test_a_follower_is_silent(self) -> None:
-        # rule: publisher.send
+        # rule: publisher.send: is heard only while the node leads the group
         publisher = self.door.publish(100, f"{DESK}:{PD}", cycle_us=1000, group=3)
         self.door.put(publisher, b"\x01")
         subscription = self.desk.subscribe(100, time_us=100_000)
@@ -156,31 +157,31 @@ class MessageData(Case):
         self.closed(self.desk, caller, "Done")
 
     def test_no_reply(self) -> None:
-        # rule: caller.reason
+        # rule: caller.reason: NoReply without an answer
         self.closed(self.desk, self.desk.request(300, f"{DOOR}:{MD}", time_us=20_000), "NoReply")
 
     def test_reply_missed(self) -> None:
-        # rule: replier.reason
+        # rule: replier.reason: ReplyMissed without an answer
         caller, asked = self.ask(time_us=40_000)
         self.closed(self.door, asked.replier, "ReplyMissed")
         self.closed(self.desk, caller, "NoReply")
 
     def test_not_all_replies(self) -> None:
-        # rule: caller.reason
+        # rule: caller.reason: NotAllReplies with one answer of two
         caller, asked = self.ask(time_us=STILL_US, expected=2)
         self.door.reply(asked.replier, 301)
         self.told(self.desk, Replied)
         self.closed(self.desk, caller, "NotAllReplies")
 
     def test_whoever_answers(self) -> None:
-        # rule: caller.complete
+        # rule: caller.complete: a caller of any number ends after its answer
         caller, asked = self.ask(time_us=STILL_US, expected=0)
         self.door.reply(asked.replier, 301)
         self.told(self.desk, Replied)
         self.closed(self.desk, caller, "Done")
 
     def test_not_confirmed(self) -> None:
-        # rule: caller.reason
+        # rule: caller.reason: NotConfirmed with an unconfirmed query
         caller, asked = self.ask(time_us=STILL_US)
         self.door.query(asked.replier, 301, time_us=100_000)
         self.assertEqual(self.told(self.desk, Replied).kind, "Mq")
@@ -188,7 +189,7 @@ class MessageData(Case):
         self.closed(self.desk, caller, "NotConfirmed")
 
     def test_overrun(self) -> None:
-        # rule: replier.overrun
+        # rule: replier.overrun: a third session at a quota of two is overrun
         listener = self.door.listen(300)
         for _ in range(3):
             self.desk.request(300, f"{DOOR}:{MD}", time_us=20 * SECOND)
@@ -197,7 +198,7 @@ class MessageData(Case):
         self.assertEqual(self.told(self.door, Overrun), Overrun(listener))
 
     def test_abort(self) -> None:
-        # rule: session.abort
+        # rule: call.abort: a caller and a replier end at it
         caller, asked = self.ask()
         self.desk.abort(caller)
         self.refused("NoHandle", self.desk.abort, caller)
@@ -205,7 +206,8 @@ class MessageData(Case):
         self.refused("NoHandle", self.door.reply, asked.replier, 301)
 
     def test_retries(self) -> None:
-        # rule: caller.repeat message.counter
+        # rule: caller.repeat: two retries give two repeats, and then the caller ends
+        # rule: message.counter: the three telegrams have counters 0, 1 and 2
         with socket.socket(socket.AF_INET, socket.SOCK_DGRAM) as sink:
             sink.bind((SINK, MD))
             sink.settimeout(20)
@@ -220,7 +222,7 @@ class Refusals(Case):
     """Each refusal of docs/SCRIPT.md that a datagram can bring about."""
 
     def test_each(self) -> None:
-        # rule: out.refusal
+        # rule: out.refusal: every refusal but Quota and Exhausted comes under its name
         slot, place = self.door, f"{DESK}:{PD}"
         publisher = slot.publish(100, place, dataset=1001)
         plain = slot.publish(100, place)
@@ -262,7 +264,7 @@ class Refusals(Case):
                 self.refused(name, call, *words)
 
     def test_quotas(self) -> None:
-        # rule: slot.share
+        # rule: slot.quota: of five kinds one object beyond the quota is refused
         slot, place = self.door, f"{SINK}:{PD}"
         quotas: list[tuple[int, Callable[[], object]]] = [
             (4, lambda: slot.publish(1, place)), (4, lambda: slot.subscribe(1)), (2, lambda: slot.openpull(1, place)),
@@ -278,7 +280,9 @@ class Slots(Case):
     """Slots that are added."""
 
     def test_a_slot_is_added(self) -> None:
-        # rule: slot.added slot.opened
+        # rule: slot.added: the added slot is slot 1, and its publisher is heard
+        # rule: slot.limit: sixteen slots are there before one is refused
+        # rule: slot.full: the seventeenth slot is SlotsFull
         operator = Operator(DOOR, OPERATOR, answer_us=SECOND)
         operator.addslot(publishers=1)
         late = self.client(Slot(str(self.daemons[0].path), 1, answer_us=SECOND))
@@ -292,7 +296,7 @@ class Slots(Case):
         self.refused("SlotsFull", operator.addslot)
 
     def test_a_slot_begins_anew(self) -> None:
-        # rule: slot.reset
+        # rule: slot.reset: its publisher is silent, its quota whole, the next handle goes on
         subscription = self.desk.subscribe(100, time_us=100_000)
         self.assertEqual(self.told(self.desk, Silent), Silent(subscription))
         before = [self.door.publish(100, f"{DESK}:{PD}", cycle_us=10_000) for _ in range(4)]
@@ -307,7 +311,7 @@ class Slots(Case):
         wait_until(lambda: self.desk.get(subscription).state == "Silent")
 
     def test_what_an_operator_is_told(self) -> None:
-        # rule: control.question
+        # rule: control.question: totals and slots are answered with counts, quotas and silence
         operator = Operator(DOOR, OPERATOR, answer_us=SECOND)
         self.door.listen(300)
         self.door.publish(100, f"{DESK}:{PD}")

@@ -166,6 +166,10 @@ class Configurations(unittest.TestCase):
     """What the node takes, this takes, and what it doesn't, this refuses."""
 
     def test_limits(self) -> None:
+        # rule: dataset.limit: 256 elements are taken, and 257 rejected
+        # rule: dataset.size: 65,388 bytes are taken, and 65,389 rejected
+        # rule: dataset.counted: a UINT32 counts, and a UINT64 does not
+        # rule: dataset.real: REAL32 is rejected
         for text, is_taken in [
             ("{ type = 8, size = 65388 }", True), ("{ type = 8, size = 65388 }, { type = 8 }", False),
             ("{ type = 'REAL32' }", False), ("{ type = 17 }", False), ("{ type = 8, size = 0 }", False),

@@ -95,7 +95,7 @@ class Edge(Case):
         self.assertEqual(taken, [(HOME, PD), (HOME, MD), (KEPT, OPERATOR), (KEPT, CONTROL), (KEPT, CONTROL + 1)])
 
     def test_bind_takes_each_spare_port(self) -> None:
-        # rule: slot.port
+        # rule: slot.port: each of 15 added slots answers at the next spare port
         spares = range(CONTROL + 1, CONTROL + 16)
         self.daemon(node(control(0), more=f"spare_control_ports = {list(spares)}\n"))
         operator = self.client(OPERATOR)

@@ -179,11 +179,13 @@ class Ends(Spoken):
         self.calls(speaker, slot, (f"query 4 301 0 {SESSION_US} 0c", "done"))
 
     def test_at_a_path(self) -> None:
-        # rule: slot.end slot.reset
+        # rule: slot.end: after each way to end the slot is empty
+        # rule: slot.reset: nothing is sent for the slot any more, and its quotas are whole
         self.ends(ENDS, 0, "--controls", self.folder)
 
     def test_at_a_port_under_a_lease(self) -> None:
-        # rule: slot.silence slot.reset
+        # rule: slot.silence: after each way to end the slot is empty behind the lease
+        # rule: slot.reset: nothing is sent for the slot any more, and its quotas are whole
         self.is_at_paths = False
         self.ends([it for it in ENDS if it.is_at_ports], LEASE, "--lease", str(LEASE))
 
@@ -314,7 +316,7 @@ class Counts(AtPaths):
     """What an end counts for."""
 
     def test_an_end_is_taken_and_told_to_nobody(self) -> None:
-        # rule: slot.end
+        # rule: slot.end: an end is counted as a call, and answered to nobody
         self.starts(control(0, QUOTAS))
         operator, application = self.connects(OPERATOR), self.connects()
         for line, answer in [(publish(), b"0 handle 1\n"), (b"reset", b"0 done\n")]:

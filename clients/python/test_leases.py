@@ -43,7 +43,7 @@ class Leases(Spoken):
         return shares(operator, self.SLOTS)[slot][1] == b"0/1"
 
     def test_one_that_hangs_is_over_behind_the_lease(self) -> None:
-        # rule: slot.lease
+        # rule: slot.lease: its publisher ends once the silence is longer, not before
         for application, operator in zip(self.both(), self.both(OPERATOR)):
             sink = self.socket(DEVICE)
             # The turn that takes the last line begins after the one that takes the line before, and so after this.

@@ -77,7 +77,7 @@ class Ports(Case):
     """Each port is the node's own, and is asked and answers for its slot."""
 
     def test_each_port_answers_for_its_slot(self) -> None:
-        # rule: control.line
+        # rule: control.line: the call is one of the port's slot
         # The third slot has no control port.
         self.daemon(node(control(0), control(1), "", control(3)))
         for port, line, answer in [
@@ -88,7 +88,8 @@ class Ports(Case):
             self.answers(self.client(port), line, answer)
 
     def test_what_a_datagram_says_at_each_port(self) -> None:
-        # rule: control.line control.operator
+        # rule: control.line: calls are read, and other lines are Unknown
+        # rule: control.operator: topology and role are read, and calls are Unknown
         self.daemon(node(control(0)))
         unknown, count, bad_word = (f"line fault {it}\n".encode() for it in ("Unknown", "Count", "BadWord"))
         got = b"0 refused NoHandle\n"

@@ -185,7 +185,7 @@ class Times(unittest.TestCase):
         cls.running = {work: cls.pool.submit(work) for work in works}
 
     def test_a_publisher_keeps_its_cycle(self) -> None:
-        # rule: publisher.cycle
+        # rule: publisher.cycle: telegrams come one cycle apart, and never more often
         self.running[keep_a_cycle].result()
 
     def test_an_idle_daemon_rests(self) -> None:

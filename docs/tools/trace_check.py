@@ -15,7 +15,7 @@ from trace_specs import Definition, Id, Specs
 
 # How many steps from a clause to a definition, by the definitions that are built on it.
 STEPS = 14
-# The same where a wrong body is to turn a rule, and how many calls lie between it and the contract, in its own crate.
+# The same where a mutant is to turn a rule, and how many calls lie between it and the contract, in its own crate.
 EDIT_STEPS = 5
 EDIT_CALLS = 4
 
@@ -54,7 +54,7 @@ class Trace:
         return self.specs.by_rule.get(rule.name, [])
 
     def shown(self, rule: Rule, kind: str) -> list[Evidence]:
-        """The wrong bodies, the rows or the tests of a rule."""
+        """The mutants, the rows or the tests of a rule."""
         return [it for it in self.evidence if it.kind == kind and rule.name in it.rules]
 
     def holders(self, rule: Rule) -> list[Holder]:
@@ -78,14 +78,15 @@ class Trace:
                       function.is_public)
 
     def _turns(self, edit: Evidence, rule: str) -> bool:
-        """Whether a wrong body turns a function whose contract, or that of one that calls it, reaches the rule."""
+        """Whether a mutant turns a function whose contract, or that of one that calls it, reaches the rule."""
         above = self.above(rule, EDIT_STEPS)
         return any(nearest(clause, above) is not None for it in self.sources.with_callers(edit.functions, EDIT_CALLS)
                    for clause in it.clauses)
 
     def faults(self) -> list[str]:
         """All that is wrong."""
-        return [*self._page_faults, *self.specs.faults, *trace_evidence.misspelled(self.top), *self._unknown(),
+        return [*self._page_faults, *self.specs.faults, *trace_evidence.misspelled(self.top),
+                *trace_evidence.lost(self.top, self.evidence), *self._unknown(),
                 *(fault for rule in self.rules for fault in self._faults_of(rule))]
 
     def _unknown(self) -> Iterator[str]:
@@ -109,8 +110,8 @@ class Trace:
         if found != sorted(rule.definitions):
             here, there = ", ".join(rule.definitions), ", ".join(found) or "nothing"
             yield f"{rule.page}: {rule.name}: names {here}, and the remarks are at {there}"
-        if not any(self.shown(rule, kind) for kind in ("edit", "row", "test")):
-            yield f"{rule.page}: {rule.name}: no wrong body, no row and no test"
+        if not any(self.shown(rule, kind) for kind in trace_evidence.KINDS):
+            yield f"{rule.page}: {rule.name}: no mutant, no row and no test"
         if found and not self.holders(rule):
             yield f"{rule.page}: {rule.name}: no clause reaches its definition"
 

@@ -1,37 +1,51 @@
-"""What shows a rule, for docs/tools/trace: the wrong bodies of crates/*/must-fail, the rows and the tests that name
-it."""
+"""What shows a rule, for docs/tools/trace: the mutants of crates/*/must-fail, the rows and the tests that name it.
+
+A tag is a line of its own: `# rule: publisher.cycle: is next due in the past after a jump, and sends again`. It has the
+rule, and in a few words how the evidence bears on it. Of a mutant these say what it does wrong, of a row or a test what
+it shows. That the words are true, and that the rule is the right one, is found by review.
+"""
 from __future__ import annotations
 
 import ast
 import dataclasses
 import pathlib
 import re
-from collections.abc import Iterator
+from collections.abc import Iterable, Iterator
 
 from trace_clauses import Function, Sources
 
-NAMES = re.compile(r"\brule:((?: [a-z]+\.[a-z]+)+)\s*(?:\"\"\")?$")
+KINDS = ("edit", "row", "test")
+TAG = re.compile(r"\s*(?:#|//) rule: ([a-z]+\.[a-z]+): (\S(?:.*[^\s.])?)$")
+NAMED = re.compile(r"\s*(?:#|//) rule: [a-z]+\.[a-z]+")
+# What looks like a tag, in the files that have some.
+TAGGED = (("crates/*/must-fail/*.edit", "#"), ("rows/*.rows", "#"), ("clients/python/test_*.py", "#"),
+          ("crates/*_tests/src/**/*.rt", "//"))
 
 
 @dataclasses.dataclass
 class Evidence:
-    """A wrong body, a row or a test: its kind, its file, its name, and the rules that it names."""
+    """A mutant, a row or a test: its kind, its file, its name, and with each rule that it names the words that say how
+    it bears on it."""
 
     kind: str
     file: str
     name: str
-    rules: list[str]
+    rules: dict[str, str]
     functions: list[Function] = dataclasses.field(default_factory=list)
 
+    @property
+    def crate(self) -> str:
+        """The crate of a mutant."""
+        return self.file.split("/")[1]
 
-def named(line: str) -> list[str]:
-    """The rules that a line names."""
-    found = NAMES.search(line)
-    return found[1].split() if found else []
+
+def tags(lines: Iterable[str]) -> dict[str, str]:
+    """The rules that lines name, each with its words."""
+    return {found[1]: found[2] for line in lines if (found := TAG.match(line))}
 
 
 def turned(top: pathlib.Path, crate: str, lines: list[str], sources: Sources) -> list[Function]:
-    """The functions that a wrong body turns."""
+    """The functions that a mutant turns."""
     file, found = "", []
     for line in lines:
         if line.startswith("file: "):
@@ -43,11 +57,10 @@ def turned(top: pathlib.Path, crate: str, lines: list[str], sources: Sources) ->
 
 
 def edits(top: pathlib.Path, sources: Sources) -> Iterator[Evidence]:
-    """The wrong bodies that name rules."""
+    """The mutants that name rules."""
     for path in sorted(top.glob("crates/*/must-fail/*.edit")):
         lines = path.read_text().splitlines()
-        rules = [name for line in lines if line.startswith("# ") for name in named(line)]
-        if rules:
+        if rules := tags(lines):
             place = path.relative_to(top)
             yield Evidence("edit", str(place), path.stem, rules, turned(top, place.parts[1], lines, sources))
 
@@ -55,29 +68,27 @@ def edits(top: pathlib.Path, sources: Sources) -> Iterator[Evidence]:
 def rows(top: pathlib.Path) -> Iterator[Evidence]:
     """The rows that name rules."""
     for path in sorted(top.glob("rows/*.rows")):
-        row: Evidence | None = None
-        for line in path.read_text().splitlines():
-            if line.startswith("== "):
-                row = Evidence("row", str(path.relative_to(top)), line[3:], [])
-            elif row and line.startswith("# rule: "):
-                if not row.rules:
-                    yield row
-                row.rules += named(line)
+        parts = re.split(r"^== ", path.read_text(), flags=re.MULTILINE)
+        for name, *lines in (part.splitlines() for part in parts[1:]):
+            if rules := tags(lines):
+                yield Evidence("row", str(path.relative_to(top)), name, rules)
 
 
 def rattle_tests(top: pathlib.Path) -> Iterator[Evidence]:
-    """The tests in Rattle that a remark above them gives rules."""
+    """The tests in Rattle with tags above them."""
     for path in sorted(top.glob("crates/*_tests/src/**/*.rt")):
-        lines = path.read_text().splitlines()
-        for index, line in enumerate(lines):
-            if line.startswith("// rule: "):
-                follow = " ".join(lines[index + 1:index + 3])
-                found = re.match(r"#\[test\] fn (\w+)", follow)
-                yield Evidence("test", str(path.relative_to(top)), found[1] if found else "", named(line))
+        lines, first = path.read_text().splitlines(), 0
+        for index, line in enumerate([*lines, ""]):
+            if TAG.match(line):
+                continue
+            if rules := tags(lines[first:index]):
+                found = re.match(r"#\[test\] fn (\w+)", " ".join(lines[index:index + 2]))
+                yield Evidence("test", str(path.relative_to(top)), found[1] if found else "", rules)
+            first = index + 1
 
 
 def python_tests(top: pathlib.Path) -> Iterator[Evidence]:
-    """The tests of the clients that name rules in themselves."""
+    """The tests of the clients with tags in them."""
     for path in sorted(top.glob("clients/python/test_*.py")):
         text = path.read_text()
         if "rule: " not in text:
@@ -85,21 +96,29 @@ def python_tests(top: pathlib.Path) -> Iterator[Evidence]:
         lines = text.splitlines()
         for node in ast.walk(ast.parse(text)):
             if isinstance(node, ast.FunctionDef) and node.name.startswith("test_") and node.end_lineno:
-                rules = [name for line in lines[node.lineno - 1:node.end_lineno] for name in named(line)]
-                if rules:
+                if rules := tags(lines[node.lineno - 1:node.end_lineno]):
                     yield Evidence("test", str(path.relative_to(top)), node.name, rules)
 
 
 def misspelled(top: pathlib.Path) -> Iterator[str]:
-    """The lines that are to name rules and don't: none of their words reads as the name of one."""
-    for pattern, begin in (("crates/*/must-fail/*.edit", "#"), ("rows/*.rows", "#"), ("crates/*/src/**/*.rt", "//"),
-                           ("clients/python/test_*.py", "#")):
+    """The lines that are to be tags and aren't: they name no rule, or don't say how the evidence bears on one."""
+    for pattern, begin in TAGGED:
         for path in sorted(top.glob(pattern)):
             for number, line in enumerate(path.read_text().splitlines(), 1):
-                if re.match(rf"\s*{begin}\s*rule\b:?", line) and not named(line):
-                    yield f"{path.relative_to(top)}:{number}: names no rule"
+                if re.match(rf"\s*{begin}\s*rules?\b:", line) and not TAG.match(line):
+                    why = "says not how it bears on the rule" if NAMED.match(line) else "names no rule"
+                    yield f"{path.relative_to(top)}:{number}: {why}"
+
+
+def lost(top: pathlib.Path, evidence: list[Evidence]) -> Iterator[str]:
+    """The files with a tag that belongs to none of the evidence, or that says the same rule of it again."""
+    for path in sorted(path for pattern, _begin in TAGGED for path in top.glob(pattern)):
+        place = str(path.relative_to(top))
+        count = sum(bool(TAG.match(line)) for line in path.read_text().splitlines())
+        if count != sum(len(it.rules) for it in evidence if it.file == place):
+            yield f"{place}: a tag belongs to no row and no test, or names a rule twice"
 
 
 def all_evidence(top: pathlib.Path, sources: Sources) -> list[Evidence]:
-    """All wrong bodies, rows and tests that name rules."""
+    """All mutants, rows and tests that name rules."""
     return [*edits(top, sources), *rows(top), *rattle_tests(top), *python_tests(top)]

@@ -1,5 +1,8 @@
-"""Tries whether docs/tools/trace notices a remark that was moved to another definition, a wrong body, a row or a
-test."""
+"""Tries whether docs/tools/trace notices that the remark of a definition was moved to another definition.
+
+Tags of mutants, rows and tests are not moved here: docs/tools/trace does not notice that one stands under a wrong rule,
+but for a mutant that is far from it.
+"""
 from __future__ import annotations
 
 import pathlib

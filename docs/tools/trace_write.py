@@ -5,7 +5,9 @@ import textwrap
 from collections.abc import Iterable
 
 import gate_lines
+import trace_counts
 from trace_check import Trace
+from trace_evidence import KINDS, Evidence
 from trace_pages import TOPICS, Rule
 
 WIDTH = 120
@@ -38,6 +40,13 @@ def held(trace: Trace, rule: Rule) -> str:
         f"; and {more} more" if more else "")
 
 
+def evidence(it: Evidence, rule: Rule) -> str:
+    """A mutant, a row or a test, with how it bears on a rule."""
+    text = {"edit": f"turned by `{it.name}` ({it.crate})", "row": f"shown by {it.file}, *{it.name}*",
+            "test": f"shown by {it.file}, `{it.name}`"}[it.kind]
+    return f"- {text}: {it.rules[rule.name]}"
+
+
 def block(trace: Trace, rule: Rule) -> str:
     """A rule with all that is found of it."""
     found = trace.definitions(rule)
@@ -46,44 +55,28 @@ def block(trace: Trace, rule: Rule) -> str:
     where = "; ".join(f"`{it.id.name}` in {it.id.file}" for it in found)
     items.append(f"- said in {rule.page}, defined as {where}")
     items.append(f"- held by {held(trace, rule)}")
-    if edits := trace.shown(rule, "edit"):
-        items.append(f"- turned by {joined(it.name for it in edits)}")
-    shown = [f"{it.file}: *{it.name}*" for it in trace.shown(rule, "row")]
-    shown += [f"{it.file}: `{it.name}`" for it in trace.shown(rule, "test")]
-    if shown:
-        items.append(f"- shown by {'; '.join(shown)}")
+    items += [evidence(it, rule) for kind in KINDS for it in trace.shown(rule, kind)]
     return "\n".join([wrapped(items[0]), "", *(wrapped(it, "  ") for it in items[1:])])
 
 
 def table(trace: Trace, rules: list[Rule]) -> str:
-    """The rules of a topic at a glance: with the nearest clause, and how many wrong bodies, rows and tests each has."""
-    lines = ["| Rule | Definition | Nearest clause | Wrong bodies | Rows | Tests | Promise |", "|" + 7 * "---|"]
+    """The rules of a topic at a glance: with the nearest clause, and how many mutants, rows and tests each has."""
+    lines = ["| Rule | Definition | Nearest clause | Mutants | Rows | Tests | Promise |", "|" + 7 * "---|"]
     for rule in rules:
         nearest = trace.holders(rule)[0]
         clause = f"`{nearest.crate}` `{nearest.function}` ({nearest.clause})"
-        numbers = [str(len(trace.shown(rule, kind))) for kind in ("edit", "row", "test")]
+        numbers = [str(len(trace.shown(rule, kind))) for kind in KINDS]
         cells = [f"`{rule.name}`", joined(rule.definitions), clause, *numbers, rule.promise]
         lines.append(f"| {' | '.join(cells)} |")
     return "\n".join(lines)
-
-
-def counts(trace: Trace) -> str:
-    """How many rules each topic has, and how many of them are turned and shown."""
-    lines = ["| Topic | Rules | with a wrong body | with a row | with a test |", "|---|---|---|---|---|"]
-    total = [0, 0, 0, 0]
-    for topic, (heading, _) in TOPICS.items():
-        rules = [rule for rule in trace.rules if rule.topic == topic]
-        row = [len(rules), *(sum(bool(trace.shown(rule, kind)) for rule in rules) for kind in ("edit", "row", "test"))]
-        total = [a + b for a, b in zip(total, row)]
-        lines.append(f"| {heading} | {' | '.join(map(str, row))} |")
-    return "\n".join([*lines, f"| all | {' | '.join(map(str, total))} |"])
 
 
 def written(trace: Trace) -> str:
     """The page. Raises gate_lines.Fault if docs/gate.json is of no use."""
     last_run = gate_lines.page_lines(gate_lines.last_run(trace.top))
     front = (trace.top / FRONT).read_text().rstrip().replace(gate_lines.MARK, last_run)
-    parts = [front, "## The rules by topic", counts(trace)]
+    front = front.replace(trace_counts.MARK, wrapped(trace_counts.sentence(trace)))
+    parts = [front, "## The rules by topic", trace_counts.table(trace)]
     for topic, (heading, _) in TOPICS.items():
         rules = [rule for rule in trace.rules if rule.topic == topic]
         if rules:
