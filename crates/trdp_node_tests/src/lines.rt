@@ -78,7 +78,11 @@ static LINES: [(&str, Said); 7] = [
     ("call 0 jump", Said::Bad(LineFault::Unknown)),
 ];
 
-// rule: line.unknown line.count line.length
+// rule: line.unknown: two lines with a word that is none are Unknown
+// rule: line.count: a moment without its number is Count
+// rule: line.length: 140,001 bytes are TooLong
+// rule: line.bad: 07 is BadWord
+// rule: line.skip: an empty line and a remark are no events
 #[test]
 fn a_line_says_its_event(rt: HostRuntime) -> Result<(), Fail> {
     for (line, wanted) in &LINES {
@@ -95,7 +99,8 @@ fn a_line_says_its_event(rt: HostRuntime) -> Result<(), Fail> {
     Ok(())
 }
 
-// rule: control.line control.operator
+// rule: control.line: a call without its slot is read as one of slot 0
+// rule: control.operator: topology, role and questions are read, moment is Unknown
 #[test]
 fn a_datagram_says_its_event(rt: HostRuntime) {
     let found = comes_to(&read_control(rt.alloc(), 0, b"get 1"));

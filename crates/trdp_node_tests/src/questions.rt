@@ -89,7 +89,7 @@ fn answers(rt: &(impl Abort + AllocGlobal), daemon: &mut MemoryDaemon) {
     offers_are(rt, daemon.wire(), &wanted);
 }
 
-// rule: control.question
+// rule: control.question: totals, objects, quotas and silence at six times
 #[test]
 fn a_question_is_answered(rt: HostRuntime) {
     let is_there = lend(daemon(rt.alloc()), |daemon| answers(&rt, daemon));

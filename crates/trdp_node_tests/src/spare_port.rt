@@ -49,7 +49,7 @@ fn opens(rt: &(impl Abort + AllocGlobal), daemon: &mut MemoryDaemon) {
     offers_are(rt, daemon.wire(), &wanted);
 }
 
-// rule: slot.port
+// rule: slot.port: the added slot answers at the spare port
 #[test]
 fn an_opened_slot_has_the_spare_port(rt: HostRuntime) {
     let is_there = lend(opening(rt.alloc()), |daemon| opens(&rt, daemon));

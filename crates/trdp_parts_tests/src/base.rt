@@ -37,7 +37,8 @@ static NO_PLACES: [&str; 7] = [
     "010.0.0.1:1",
 ];
 
-// rule: text.address text.place
+// rule: text.address: 10.0.0.2 is read; 256 and 010 are not
+// rule: text.place: port 65535 is read; 65536, 01 and no port are not
 #[test]
 fn reads_addresses_and_places(rt: HostRuntime) {
     same(&rt, "an address", read_ip(b"10.0.0.2"), Ok(ADDRESS));
@@ -64,7 +65,7 @@ static NUMBERS: [(&str, u64); 3] = [
 /// No numbers of 0 to 7.
 static NO_NUMBERS: [&str; 7] = ["", "00", "07", "+7", "-7", "8", "18446744073709551616"];
 
-// rule: text.number
+// rule: text.number: signs and leading zeros are not read
 #[test]
 fn reads_numbers(rt: HostRuntime) {
     for (text, number) in &NUMBERS {
@@ -104,7 +105,7 @@ fn reads_as(rt: &(impl Abort + AllocGlobal), text: &str, wanted: Result<&[u8], T
     }
 }
 
-// rule: text.hex
+// rule: text.hex: a dash is no bytes; capitals and half a pair are not read
 #[test]
 fn reads_bytes(rt: HostRuntime) {
     for (text, wanted) in &HEX {
@@ -160,7 +161,7 @@ fn moment(number: u64) -> Option<u64> {
     Some(Moment::new(number)?.get())
 }
 
-// rule: time.range
+// rule: time.range: 2^62 is a time, and 2^62 + 1 is none
 #[test]
 fn moments_have_a_last(rt: HostRuntime) {
     let ends = (
@@ -177,21 +178,21 @@ fn quotas(first: u16, last: u16) -> Option<(u16, u16)> {
     Some((quotas.get(0), quotas.get(5)))
 }
 
-// rule: slot.quota
+// rule: slot.quota: 256 is a quota, and 257 is none
 #[test]
 fn quotas_have_a_limit(rt: HostRuntime) {
     let found = [quotas(256, 4), quotas(257, 0), quotas(0, 257)];
     same(&rt, "256 and 257", found, [Some((256, 4)), None, None]);
 }
 
-// rule: text.uri
+// rule: text.uri: 33 bytes and a zero byte are no URI
 #[test]
 fn uris_have_a_limit(rt: HostRuntime) {
     assert!(rt; Uri::new(&[0x61; 32]) == Some(Uri::from_field(&[0x61; 32])));
     assert!(rt; Uri::new(&[0x61; 33]).is_none() && Uri::new(b"a\0b").is_none());
 }
 
-// rule: telegram.uri
+// rule: telegram.uri: bytes after the first zero byte are ignored
 #[test]
 fn uris_end_at_a_zero(rt: HostRuntime) {
     let uri = Uri::from_field(b"ab\0c");
@@ -226,7 +227,7 @@ static STATUSES: [(&str, i32); 4] = [
 
 static NO_STATUSES: [&str; 7] = ["", "-", "-0", "01", "+1", "2147483648", "-2147483649"];
 
-// rule: text.status
+// rule: text.status: the least and the greatest status are read
 #[test]
 fn reads_statuses(rt: HostRuntime) {
     for (text, status) in &STATUSES {
@@ -256,6 +257,7 @@ static NO_SESSIONS: [&str; 3] = [
     "(f81d4fae-7dec-11d0-a765-00a0c91e6bf6)",
 ];
 
+// rule: text.session: four forms are read as one identifier
 #[test]
 fn reads_sessions(rt: HostRuntime) {
     for text in &SESSIONS {

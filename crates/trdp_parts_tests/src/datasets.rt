@@ -137,7 +137,7 @@ static COUNTS: [(ElementKind, u16, bool); 4] = [
     (ElementKind::Bool8, 1, false),
 ];
 
-// rule: dataset.counted
+// rule: dataset.counted: a UINT32 counts items; a UINT64 and a BOOL8 do not
 #[test]
 fn counts_items(rt: HostRuntime) {
     for (index, (kind, size, counts)) in COUNTS.iter().enumerate() {

@@ -6,7 +6,7 @@ use crate::plain;
 use crate::same::same;
 use trdp_fcs::{Running, frame_check};
 
-// rule: telegram.crc
+// rule: telegram.crc: three texts have the published CRC-32
 #[test]
 fn texts_have_the_published_checks(rt: HostRuntime) {
     for (text, check) in [("", 0), ("a", 0xe8b7_be43), ("123456789", 0xcbf4_3926)] {

@@ -18,7 +18,7 @@ fn matches(a: u32, b: u32) -> [bool; 3] {
     [valid(a, b), first, last]
 }
 
-// rule: topology.match
+// rule: topology.match: equal counters match, and 0 matches any
 #[test]
 fn counts_match(rt: HostRuntime) {
     for (index, (a, b, wanted)) in COUNTS.iter().enumerate() {
@@ -87,7 +87,7 @@ static RANGES: [(u32, u32, u32, bool); 4] = [
     (2, 0, 3, false),
 ];
 
-// rule: filter.source
+// rule: filter.source: 0 to 0 takes any, and the high end passes
 #[test]
 fn ranges_have_both_their_ends(rt: HostRuntime) {
     for (index, (low, high, source, wanted)) in RANGES.iter().enumerate() {
@@ -102,7 +102,7 @@ fn ends(led: &Groups) -> (bool, bool) {
     (led.leads(1), led.leads(255))
 }
 
-// rule: role.group
+// rule: role.group: the first and the last group are set one by one
 #[test]
 fn a_node_leads_groups_1_to_255(rt: HostRuntime) {
     let mut led = Groups::none();

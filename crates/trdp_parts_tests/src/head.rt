@@ -59,7 +59,8 @@ fn telegrams_are_read(rt: HostRuntime) {
     assert!(rt; reads(&REQUEST, REQUEST_HEAD, b"\x0a\x0b\x0c"));
 }
 
-// rule: telegram.layout telegram.written
+// rule: telegram.layout: all bytes of a Pd and a Pr
+// rule: telegram.written: version 0x0100, and 0 in the reserved field
 #[test]
 fn telegrams_are_written(rt: HostRuntime) {
     let mut room = [0xff; 44];
@@ -172,7 +173,8 @@ fn data_with(offset: usize, bytes: [u8; 2], check: [u8; 4]) -> [u8; 44]
     telegram
 }
 
-// rule: telegram.fault telegram.check
+// rule: telegram.version: version 2 is a fault, 0x01ff is none
+// rule: telegram.check: a frame check with its highest byte first is a fault
 #[test]
 fn changed_telegrams_have_their_faults(rt: HostRuntime) {
     for row in &CHANGED {
@@ -192,7 +194,8 @@ fn cut_to(length: usize) -> Result<usize, HeadFault> {
     }
 }
 
-// rule: telegram.length
+// rule: telegram.length: without the last byte of its dataset it is a fault
+// rule: telegram.fault: Short comes first
 #[test]
 fn a_telegram_is_cut(rt: HostRuntime) {
     for length in 0..DATA.len() + 1 {
@@ -208,6 +211,7 @@ pub(crate) fn change_bit(bytes: &mut [u8], bit: usize) {
     }
 }
 
+// rule: telegram.fault: Fcs comes before Version, Kind and Length
 #[test]
 fn each_changed_bit_of_the_header_is_found(rt: HostRuntime) {
     for bit in 0..320 {
@@ -217,6 +221,8 @@ fn each_changed_bit_of_the_header_is_found(rt: HostRuntime) {
     }
 }
 
+// rule: telegram.fault: TooLong comes before Fcs
+// rule: telegram.tail: 1473 bytes are TooLong
 #[test]
 fn telegrams_have_at_most_1472_bytes(rt: HostRuntime) {
     let zeros = [0; PD_TELEGRAM_MAX + 1];
@@ -229,7 +235,7 @@ fn telegrams_have_at_most_1472_bytes(rt: HostRuntime) {
     }
 }
 
-// rule: telegram.padding
+// rule: telegram.padding: 1 byte makes 44, 1432 make 1472
 #[test]
 fn lengths_are_multiples_of_four(rt: HostRuntime) {
     for (payload, length) in [(0, 40), (1, 44), (4, 44), (1432, 1472)] {

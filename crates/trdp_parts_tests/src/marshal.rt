@@ -227,7 +227,12 @@ fn write_zeros(rt: &(impl Abort + AllocGlobal), registry: &Registry) {
     assert!(rt; fits(registry, 1002, &[0; 9]));
 }
 
-// rule: dataset.packed dataset.array dataset.zero dataset.any
+// rule: dataset.packed: numbers are big-endian, without a gap
+// rule: dataset.array: fewer or more items than the count are Shape
+// rule: dataset.whole: one byte after the value is Shape
+// rule: dataset.form: a TIMEDATE64 has any 32 bits in each half
+// rule: dataset.zero: the zero value of a nested dataset is nine zeros
+// rule: dataset.any: any bytes fit dataset 0
 #[test]
 fn values_have_their_bytes(rt: HostRuntime) -> Result<(), Fail> {
     let registry = Registry::from_toml(rt.alloc(), DATASETS)?;

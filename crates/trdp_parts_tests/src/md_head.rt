@@ -81,7 +81,8 @@ fn reads(bytes: &[u8], head: MdHead, payload: &[u8]) -> bool {
     }
 }
 
-// rule: telegram.uri telegram.verbatim
+// rule: telegram.uri: bytes after the first zero byte are ignored
+// rule: telegram.verbatim: status and timeout of a query are read as they are
 #[test]
 fn telegrams_are_read(rt: HostRuntime) {
     assert!(rt; reads(&QUERY, query_head(), &[0x0a, 0x0b, 0x0c]));
@@ -90,7 +91,7 @@ fn telegrams_are_read(rt: HostRuntime) {
     assert!(rt; reads(&tail, query_head(), &[0x0a, 0x0b, 0x0c]));
 }
 
-// rule: telegram.layout
+// rule: telegram.layout: all bytes of a query
 #[test]
 fn telegrams_are_written(rt: HostRuntime) {
     let mut room = [0xff; 120];
@@ -179,6 +180,7 @@ fn a_telegram_is_cut(rt: HostRuntime) {
     }
 }
 
+// rule: telegram.fault: Fcs comes before Version, Kind and Length
 #[test]
 fn each_changed_bit_of_the_header_is_found(rt: HostRuntime) {
     for bit in 0..928 {
@@ -188,6 +190,8 @@ fn each_changed_bit_of_the_header_is_found(rt: HostRuntime) {
     }
 }
 
+// rule: telegram.fault: TooLong comes before Fcs
+// rule: telegram.tail: 65,505 bytes are TooLong
 #[test]
 fn telegrams_have_at_most_65504_bytes(rt: HostRuntime) {
     let zeros = [0; MD_TELEGRAM_MAX + 1];
@@ -200,7 +204,7 @@ fn telegrams_have_at_most_65504_bytes(rt: HostRuntime) {
     }
 }
 
-// rule: telegram.padding
+// rule: telegram.padding: 1 byte makes 120, 65,388 make 65,504
 #[test]
 fn lengths_are_multiples_of_four(rt: HostRuntime) {
     for (payload, length) in [(0, 116), (1, 120), (65388, 65504)] {

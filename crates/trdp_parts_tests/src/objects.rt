@@ -297,7 +297,8 @@ fn is_head(head: MdHead, kind: MdKind, status: i32, timeout: u32, source_uri: Ur
         && head.source_uri == source_uri
 }
 
-// rule: replier.answer confirmation.fields
+// rule: replier.answer: three kinds of answers have the request's URIs swapped
+// rule: confirmation.fields: the confirmation has the URIs as they were, and timeout 0
 #[test]
 fn headers_of_a_session(rt: HostRuntime) -> Result<(), Fail> {
     let terms = asks();
@@ -313,7 +314,7 @@ fn headers_of_a_session(rt: HostRuntime) -> Result<(), Fail> {
     Ok(())
 }
 
-// rule: notification.fields
+// rule: notification.fields: counter, session, status and timeout are 0
 #[test]
 fn notification_of_no_session(rt: HostRuntime) {
     let sent = notification(&NotifyTerms {

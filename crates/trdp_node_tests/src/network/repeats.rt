@@ -76,7 +76,8 @@ static STEPS: [Step; 9] = [
     },
 ];
 
-// rule: replier.repeat
+// rule: replier.repeat: the repeat of an open request does nothing
+// rule: replier.again: the request after the reply is asked again
 #[test]
 fn a_repeat_is_no_second_request(rt: HostRuntime) -> Result<(), Fail> {
     let mut bench = NetworkBench::new(rt.alloc())?;
