@@ -29,9 +29,10 @@
 //! connection, unless one waits or the last number was given, and read from those that speak.
 //! Where nothing is heard at it, no call of the connections brought anything, and none waited.
 //!
-//! Connections that report nothing, such as the system's, have these clauses of their numbers
-//! alone. No contract says what the other side sends and takes, nor that a search for the end of a
-//! line begins where the one before it ended.
+//! If connections report nothing, as the system's don't, only the clauses about their numbers hold
+//! of them. No contract says who is closed or receives `busy`, that a take or a give writes what
+//! waits, what the other side sends and takes, nor that a search for the end of a line begins where
+//! the search before it ended. The tests of `clients/` try the first three.
 #![tactic(auto)]
 
 mod admission;

@@ -85,7 +85,6 @@ answers_unless None r left head payload = record {
 }
 
 -- the act of an object that is to reply: a replier ends with it
--- rule: replier.again
 abbrev pub replies : ℕ → ℤ → List ℕ → AnyObject → Act
 replies com_id status payload (Replier r) =
     answers_unless (reply_refusal r status payload) r None

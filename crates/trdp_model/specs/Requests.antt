@@ -80,7 +80,7 @@ asked_unless None slot listener globals src telegram = record {
 
 -- what a slot makes of a request that its listener of that handle heard: nothing where a replier
 -- of the session is open, whichever peer it belongs to
--- rule: replier.repeat
+-- rule: replier.repeat replier.again
 abbrev pub asked : SlotState → ℕ → Globals → Place → MdTelegram → Outcome
 asked slot listener globals src telegram =
     if has_session Replying telegram.head.session slot.objects

@@ -35,9 +35,11 @@
 //! line before. Over a wire and a clock that report, these are the turns that they report
 //! ([`attend_lines`]).
 //!
-//! **Tested**: the words on `errors`, of which a text that is left out, or another in its place,
-//! breaks no contract; and what the system says to a write. [`Ready`] asks it before each one
-//! whether it would wait, and is tested over pipes and devices that are full or gone.
+//! **Tested**: which folder has the control sockets, or whether there are UDP ports instead; that a
+//! bind was refused before a `bind fault`; the words on `errors`, of which a text that is left out,
+//! or another in its place, breaks no contract; and what the system says to a write. [`Ready`] asks
+//! it before each one whether it would wait, and is tested over pipes and devices that are full or
+//! gone.
 #![tactic(auto)]
 
 mod attend;

@@ -36,11 +36,12 @@
 //!   the system refuses a port. A daemon has no `write fault`.
 //!
 //! **Proved**, in the contracts of `trdp_program`'s `run_program`, `serve_with`, `check_program`
-//! and `report_daemon`: what it does in each case, with the exit status, but for the words of a
-//! check and for what the system does. The functions here and in `command` have no clauses.
-//! **Tested** over this program: how the file is read, those words, the help and the version
-//! (`bench/refused_runs.py`, `bench/config_words.py`, `bench/command_words.py`). `clap` reads the
-//! command line; no test compares its texts about wrong words.
+//! and `report_daemon`: what it does in each case, with the exit status. They don't say which words
+//! a check writes, where ports are bound, where connections are taken, nor what the system does.
+//! The functions here and in `command` have no clauses. **Tested** over this program: how the file
+//! is read, the words of a check, the help and the version (`bench/refused_runs.py`,
+//! `bench/config_words.py`, `bench/command_words.py`), and the ports and paths (the tests of
+//! `clients/`). `clap` reads the command line; no test compares its texts about wrong words.
 #![tactic(auto)]
 
 mod command;
