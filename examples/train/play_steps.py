@@ -31,8 +31,8 @@ def joining(train: Train) -> list[str]:
     train.display_2.join(SEEN)
     heard = train.wait_for_telegram(train.display_2, 1, joined)
     return [
-        f"Display 2 hasn't joined {SEEN}, and hears none of {passed} telegrams. It joins, and hears the next "
-        f"one after {heard.at - joined:.2f} s."]
+        f"Display 2 has not joined {SEEN}, and receives none of {passed} telegrams. It joins, and receives the next "
+        f"telegram after {heard.at - joined:.2f} s."]
 
 
 def sameness(train: Train) -> list[str]:
@@ -75,7 +75,7 @@ def dropping(train: Train) -> list[str]:
     missing = play_compare.missing_by_drops(train.displays, begin, dropped)
     return [
         f"nft drops each fourth telegram before display 1, {dropped} of them. Its counters miss "
-        f"{', '.join(map(str, missing))}, and nothing else is seen."]
+        f"{', '.join(map(str, missing))}, and no other device notices."]
 
 
 def takeover(train: Train) -> list[str]:
@@ -92,10 +92,10 @@ def takeover(train: Train) -> list[str]:
     follows = train.wait_for(train.doors_2, "follows", plugged)
     play_compare.must_lose_none(before, after)
     return [
-        f"The cable of doors 1 is pulled. {leads.at - pulled:.2f} s later the application of doors 2, which hears "
-        f"nothing, says `role {REDUNDANT} leader`.",
-        f"The displays see nothing for {dark[0]:.2f} s and {dark[1]:.2f} s, and aren't told silent. What doors 1 "
-        f"sends is swallowed: lost 0.",
+        f"The cable of doors 1 is pulled. {leads.at - pulled:.2f} s later the application of doors 2, which receives "
+        f"nothing, sends `role {REDUNDANT} leader`.",
+        f"The displays receive nothing for {dark[0]:.2f} s and {dark[1]:.2f} s, less than their supervision time, so "
+        f"neither reports a silence. Doors 1 goes on sending and counts no loss: lost 0.",
         f"The cable is back. The displays hear doors 1 after {heard - plugged:.2f} s, and doors 2 follows after "
         f"{follows.at - plugged:.2f} s."]
 
@@ -125,9 +125,9 @@ def refusing(train: Train) -> list[str]:
     train.wait(f"doors 1 says {why}", lambda: why in train.doors_1.errors("daemon").read_text())
     swallowed = play_compare.swallowed_of(train.display_1, down, lost)
     return [
-        f"The link of doors 1 is set down. Its telegrams to diagnosis alone are refused, lost {lost}; the "
-        f"{swallowed} to the group are swallowed.",
-        f"It's up again, and the displays hear doors 1 after {heard - up:.2f} s."]
+        f"The link of doors 1 is set down. The system refuses its telegrams to diagnosis, lost {lost}, and drops the "
+        f"{swallowed} to the group without an error.",
+        f"The link is up again, and the displays hear doors 1 after {heard - up:.2f} s."]
 
 
 def silence(train: Train) -> list[str]:
@@ -140,8 +140,8 @@ def silence(train: Train) -> list[str]:
     alive = train.wait_for(train.display_1, "alive", up)
     train.wait_for_telegram(train.display_1, 1, up)
     return [
-        f"The link of display 1 is set down. It's told silent after {silent.at - down:.1f} s, and nobody else is; "
-        f"up again, it's told alive after {alive.at - up:.2f} s."]
+        f"The link of display 1 is set down. It receives `silent` after {silent.at - down:.1f} s, and no other device "
+        f"does. The link is up again, and it receives `alive` after {alive.at - up:.2f} s."]
 
 
 STEPS = (Step(joining, ("display 2",)), Step(sameness), Step(asking), Step(dropping), Step(takeover, ("doors 2",)),
