@@ -4,7 +4,6 @@
     package/record.py state                 prints `proved PATH`, `unproved PATH` or `none`: the program that runs here
     package/record.py digest                prints the digest of all that a proof reads, as it is now
     package/record.py write KIND DIGEST     notes that the program of that kind was made of the sources of that digest
-    package/record.py show                  prints the record of the program that runs here
 
 KIND is `proved` or `unproved`. A record counts only if its digest is that of the tree as it is now, and its sum that of
 the program as it is now. So a changed definition, a changed comment and a replaced program are not called proved, and a
@@ -55,9 +54,9 @@ class Mismatch(Exception):
     """Why a record isn't written."""
 
 
-def sum_of(path: pathlib.Path) -> str:
+def sum_of(path: pathlib.Path | str) -> str:
     """The SHA-256 of a file."""
-    with path.open("rb") as file:
+    with open(path, "rb") as file:
         return hashlib.file_digest(file, "sha256").hexdigest()
 
 
@@ -75,19 +74,21 @@ def crates_below(top: pathlib.Path) -> set[str]:
     return found
 
 
-def files_read(top: pathlib.Path) -> Iterator[pathlib.Path]:
-    """The files that a proof of the program reads."""
-    yield from (it for it in (top / "HANDLES", top / "crates.txt") if it.exists())
+def files_read(top: pathlib.Path) -> Iterator[str]:
+    """The files that a proof of the program reads, as paths from the top. Plain text, since each start reads 1,300."""
+    yield from (it for it in ("HANDLES", "crates.txt") if (top / it).exists())
     for name in crates_below(top):
         for part in PARTS:
-            yield from (it for it in (top / "crates" / name / part).rglob("*") if it.is_file())
+            for folder, _, files in os.walk(top / "crates" / name / part):
+                inside = os.path.relpath(folder, top)
+                yield from (f"{inside}/{file}" for file in files)
 
 
 def digest_of(top: pathlib.Path, kit: str) -> str:
     """The digest of all that a proof by that kit reads."""
     total = hashlib.sha256()
-    for path in sorted(files_read(top)):
-        total.update(f"{sum_of(path)}  {path.relative_to(top).as_posix()}\n".encode())
+    for path in sorted(files_read(top), key=lambda it: it.split("/")):
+        total.update(f"{sum_of(f'{top}/{path}')}  {path}\n".encode())
     total.update(f"{kit.rpartition(' ')[2]}  logic\n".encode())
     return total.hexdigest()
 
@@ -164,8 +165,6 @@ def main(words: list[str]) -> int:
             print(f"{found[1].kind} {found[0]}" if found else "none")
         case ["digest"]:
             print(digest_of(TOP, kit_line() or ""))
-        case ["show"] if found := current(TOP):
-            print(found[1].text(), end="")
         case ["write", kind, digest] if kind in PLACES and re.fullmatch("[0-9a-f]{64}", digest):
             try:
                 write(TOP, kind, digest)
@@ -173,7 +172,7 @@ def main(words: list[str]) -> int:
                 print(f"run: {why}", file=sys.stderr)
                 return 1
         case _:
-            print("usage: package/record.py state | digest | show | write KIND DIGEST", file=sys.stderr)
+            print("usage: package/record.py state | digest | write KIND DIGEST", file=sys.stderr)
             return 2
     return 0
 
