@@ -7,8 +7,6 @@ import pathlib
 import textwrap
 from typing import Any, NamedTuple
 
-# The mark in docs/tools/trace_front.md in whose place docs/tools/trace writes `page_lines`.
-MARK = "<!-- the last whole run -->"
 NONE = "No whole run of CI is recorded yet."
 WIDTH = 120
 
@@ -67,7 +65,7 @@ def sentence(run: Run | None) -> str:
 
 
 def page_lines(run: Run | None) -> str:
-    """What docs/TRACE.md has of the run."""
+    """What docs/TRACE.md says of the run, in the part that docs/tools/trace writes."""
     if run is None:
         return NONE
     host, proofs = run.host, run.proofs
@@ -76,9 +74,9 @@ def page_lines(run: Run | None) -> str:
         f"The run took {sum(it.minutes for it in run.stages):.0f} minutes on {host['processors']} processors"
         f" ({host['model']}, kernel {host['kernel']}, {host['compiler']}), with {run.kit}.",
         f"In this run {len(proofs['proved'])} crates were proved, and {len(proofs['kept'])} were kept as earlier runs"
-        f" on that machine had proved them. The prover refused {proofs['edits_refused']} wrong bodies, of which"
-        f" {proofs['edits_tried']} were tried in this run. The program's SHA-256 is {run.program}. docs/gate.json has"
-        " the whole record.",
+        f" on that machine had proved them. The prover refused {proofs['edits_refused']} mutants, of which"
+        f" {proofs['edits_tried']} were tried in this run. The program's SHA-256 is {run.program}."
+        " [gate.json](gate.json) has the whole record.",
     ])
     rows = [f"| {it.name} | `{it.last_line}` | {it.minutes:.1f} |" for it in run.stages]
     table = "\n".join(["| Stage | Its last line | Minutes |", "|---|---|---|", *rows])

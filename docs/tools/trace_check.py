@@ -5,6 +5,7 @@ import dataclasses
 import functools
 import pathlib
 from collections.abc import Iterator
+from typing import NamedTuple
 
 import trace_evidence
 import trace_pages
@@ -18,12 +19,16 @@ STEPS = 14
 # The same where a mutant is to turn a rule, and how many calls lie between it and the contract, in its own crate.
 EDIT_STEPS = 5
 EDIT_CALLS = 4
+# How many functions a page lists of those that hold a rule, and how many of them may be laws.
+LISTED = 5
+LAWS = 2
 
 
 @dataclasses.dataclass(frozen=True, order=True)
 class Holder:
-    """A clause that holds a rule: whether it is a law's, the steps from it to the definition, whether it is of another
-    crate than the definition, its crate with its place in crates.txt, its function and its name."""
+    """A function that holds a rule: whether it is a law, the steps from its nearest clauses to the definition, whether
+    it is of another crate than the definition, its crate with the crate's place in crates.txt, its name, the names of
+    these clauses, its file and its line, and whether other crates can call it."""
 
     is_law: bool
     steps: int
@@ -31,8 +36,19 @@ class Holder:
     order: int
     crate: str
     function: str
-    clause: str
+    clauses: tuple[str, ...]
+    file: str
+    line: int
     is_public: bool
+
+
+class Others(NamedTuple):
+    """A function with the clauses that are listed at no rule."""
+
+    crate: str
+    file: str
+    function: str
+    clauses: list[str]
 
 
 class Trace:
@@ -47,7 +63,8 @@ class Trace:
         self.rules, self._page_faults = trace_pages.rules(top)
         self.above = functools.cache(self.specs.above)
         lines = (top / "crates.txt").read_text().splitlines()
-        self._order = [line.split(":")[0] for line in lines if ":" in line]
+        self.crates = [line.split(":")[0] for line in lines if ":" in line]
+        self._holders: dict[str, list[Holder]] = {}
 
     def definitions(self, rule: Rule) -> list[Definition]:
         """The definitions of a rule, by their remarks."""
@@ -58,24 +75,46 @@ class Trace:
         return [it for it in self.evidence if it.kind == kind and rule.name in it.rules]
 
     def holders(self, rule: Rule) -> list[Holder]:
-        """The clauses that hold a rule, the nearest first: of each function one. Private functions come in where no
-        public one has any."""
-        found = [it for it in self.sources.all if it.is_public and self._holder(rule, it)]
-        functions = found or [it for it in self.sources.all if self._holder(rule, it)]
-        return sorted(holder for it in functions if (holder := self._holder(rule, it)))
+        """The functions whose clauses hold a rule, the nearest first. Private functions come in if no public one has
+        such a clause."""
+        if rule.name not in self._holders:
+            found = sorted(it for function in self.sources.all if (it := self._holder(rule, function)))
+            self._holders[rule.name] = [it for it in found if it.is_public] or found
+        return self._holders[rule.name]
+
+    def listed(self, rule: Rule) -> list[Holder]:
+        """The nearest of these functions. Laws come last, and only if they are nearer than each other function."""
+        functions, laws = ([it for it in self.holders(rule) if it.is_law == is_law] for is_law in (False, True))
+        near = [it for it in functions if it.steps <= functions[0].steps + 1][:LISTED]
+        nearer = [it for it in laws if not functions or it.steps < functions[0].steps]
+        return near + nearer[:min(LAWS, LISTED - len(near))]
 
     def _holder(self, rule: Rule, function: Function) -> Holder | None:
-        """The nearest clause of a function that holds a rule."""
+        """A function that holds a rule, with its nearest clauses; nothing if none of its clauses holds it."""
         above = self.above(rule.name, STEPS)
         crate = function.crate
         is_elsewhere = crate not in {it.id.crate for it in self.definitions(rule)}
-        found = [(steps, clause.name or "ensures") for clause in function.clauses if clause.kind != "requires"
+        found = [(steps, name_of(clause)) for clause in promises(function)
                  if (steps := nearest(clause, above)) is not None]
         if not found:
             return None
-        steps, name = min(found)
-        return Holder(function.is_law, steps, is_elsewhere, self._order.index(crate), crate, function.name, name,
-                      function.is_public)
+        least = min(found)[0]
+        names = tuple(sorted({name for steps, name in found if steps == least}))
+        return Holder(function.is_law, least, is_elsewhere, self.crates.index(crate), crate, function.name, names,
+                      function.file, function.first, function.is_public)
+
+    def others(self) -> tuple[list[Others], list[Others]]:
+        """The public functions with clauses that are listed at no rule: those that hold no rule, and those that do."""
+        listed = {(it.file, it.line, clause) for rule in self.rules for it in self.listed(rule)
+                  for clause in it.clauses}
+        reached = {it for rule in self.rules for it in self.above(rule.name, STEPS)}
+        without, holding = list[Others](), list[Others]()
+        for it in self.sources.all:
+            names = dict.fromkeys(map(name_of, promises(it)))
+            if left := [name for name in names if it.is_public and (it.file, it.first, name) not in listed]:
+                holds = any(clause.named & reached for clause in promises(it))
+                (holding if holds else without).append(Others(it.crate, it.file, it.name, left))
+        return without, holding
 
     def _turns(self, edit: Evidence, rule: str) -> bool:
         """Whether a mutant turns a function whose contract, or that of one that calls it, reaches the rule."""
@@ -114,6 +153,16 @@ class Trace:
             yield f"{rule.page}: {rule.name}: no mutant, no row and no test"
         if found and not self.holders(rule):
             yield f"{rule.page}: {rule.name}: no clause reaches its definition"
+
+
+def promises(function: Function) -> list[Clause]:
+    """The clauses of a function that say what it does."""
+    return [it for it in function.clauses if it.kind != "requires"]
+
+
+def name_of(clause: Clause) -> str:
+    """The name of a clause; `ensures` if it has none of its own."""
+    return clause.name or "ensures"
 
 
 def nearest(clause: Clause, above: dict[Id, int]) -> int | None:

@@ -28,10 +28,11 @@ class Clause:
 
 @dataclasses.dataclass
 class Function:
-    """A function: its crate, the name with its type, whether other crates can call it and whether it is a law, its
-    lines, and its clauses."""
+    """A function: its crate and its file, the name with its type, whether other crates can call it and whether it is a
+    law, its lines, and its clauses."""
 
     crate: str
+    file: str
     name: str
     is_public: bool
     is_law: bool
@@ -92,10 +93,11 @@ def block_of(line: str) -> Block:
 class Reader:
     """Reads the functions of a source file."""
 
-    def __init__(self, crate: str, text: str, is_of_laws: bool) -> None:
-        """Looks at the text of a file of that crate, which may be the one of its laws."""
+    def __init__(self, crate: str, file: str, text: str) -> None:
+        """Looks at the text of a file of that crate, which may be the file of its laws."""
         self.crate = crate
-        self.is_of_laws = is_of_laws
+        self.source = file
+        self.is_of_laws = file.endswith("/laws.rt")
         self.lines = [re.sub(r"//.*", "", line).rstrip() for line in text.splitlines()]
         self.file = self.block = Block()
         self.functions: list[Function] = []
@@ -143,7 +145,7 @@ class Reader:
         name = f"{self.block.owner}::{found[3]}" if self.block.owner else found[3]
         is_public = found[2] == "pub " or bool(self.block.trait) or self.block.is_trait
         words = set(WORD.findall("\n".join(self.lines[index:last + 1])))
-        it = Function(self.crate, name, is_public, self.is_of_laws, index + 1, last + 1, words)
+        it = Function(self.crate, self.source, name, is_public, self.is_of_laws, index + 1, last + 1, words)
         for at in range(index, last + 1):
             if clause := CLAUSE.match(self.lines[at]):
                 it.clauses.append(self._clause(clause[1], clause[2], braced(self.lines, at)[0]))
@@ -173,10 +175,10 @@ class Sources:
         self._by_file: dict[str, Reader] = {}
         traits: dict[str, list[Clause]] = {}
         for path in sorted(top.glob("crates/*/src/**/*.rt")):
-            crate = path.relative_to(top).parts[1]
-            if not crate.endswith("_tests"):
-                reader = Reader(crate, path.read_text(), path.stem == "laws")
-                self._by_file[str(path.relative_to(top))] = reader
+            place = path.relative_to(top)
+            if not place.parts[1].endswith("_tests"):
+                reader = Reader(place.parts[1], str(place), path.read_text())
+                self._by_file[str(place)] = reader
                 traits.update(reader.traits)
         self.all = [it for reader in self._by_file.values() for it in reader.functions]
         public = {crate: exported(top / "crates" / crate) for crate in {it.crate for it in self.all}}

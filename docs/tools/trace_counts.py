@@ -5,11 +5,10 @@ from collections.abc import Iterator
 
 from trace_check import Trace
 from trace_evidence import KINDS
+from trace_links import link
 from trace_pages import TOPICS, Rule
 
 README = "README.md"
-# The mark in docs/tools/trace_front.md in whose place the numbers are written.
-MARK = "<!-- the numbers -->"
 
 
 def numbers(trace: Trace, rules: list[Rule]) -> list[int]:
@@ -22,8 +21,8 @@ def sentence(trace: Trace) -> str:
     """The numbers of all rules, in words."""
     edit, row, test, none = numbers(trace, trace.rules)
     single = sum(sum(len(trace.shown(rule, kind)) for kind in KINDS) == 1 for rule in trace.rules)
-    return (f"Of {len(trace.rules)} rules {edit} have a mutant, {row} a row, {test} a test, and {none} none of the "
-            f"three. {single} rules have only one mutant, row or test in all.")
+    return (f"There are {len(trace.rules)} rules: {edit} have a mutant, {row} have a row, {test} have a test, and "
+            f"{none} have none of the three. {single} rules have only one mutant, row or test in all.")
 
 
 def in_readme(trace: Trace) -> str:
@@ -40,10 +39,15 @@ def readme_faults(trace: Trace) -> Iterator[str]:
         yield f"{README}: does not say `{wanted}`"
 
 
-def table(trace: Trace) -> str:
-    """The same of each topic."""
+def line_of(trace: Trace, name: str, rules: list[Rule]) -> str:
+    """A line of the table: how many rules there are, and how many of them have a mutant, a row, a test, and none."""
+    return f"| {name} | {' | '.join(map(str, [len(rules), *numbers(trace, rules)]))} |"
+
+
+def table(trace: Trace, page: str) -> str:
+    """The numbers of each topic, with a link to its rules in that page."""
     lines = ["| Topic | Rules | with a mutant | with a row | with a test | with none |", "|" + 6 * "---|"]
     for topic, (heading, _) in TOPICS.items():
         rules = [rule for rule in trace.rules if rule.topic == topic]
-        lines.append(f"| {heading} | {' | '.join(map(str, [len(rules), *numbers(trace, rules)]))} |")
-    return "\n".join([*lines, f"| all | {' | '.join(map(str, [len(trace.rules), *numbers(trace, trace.rules)]))} |"])
+        lines.append(line_of(trace, link(heading, page, heading), rules))
+    return "\n".join([*lines, line_of(trace, "all", trace.rules)])

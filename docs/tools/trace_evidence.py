@@ -24,11 +24,12 @@ TAGGED = (("crates/*/must-fail/*.edit", "#"), ("rows/*.rows", "#"), ("clients/py
 
 @dataclasses.dataclass
 class Evidence:
-    """A mutant, a row or a test: its kind, its file, its name, and with each rule that it names the words that say how
-    it bears on it."""
+    """A mutant, a row or a test: its kind, its file and its line, its name, and with each rule that it names the words
+    that say how it bears on it. Of a mutant also the functions that it turns."""
 
     kind: str
     file: str
+    line: int
     name: str
     rules: dict[str, str]
     functions: list[Function] = dataclasses.field(default_factory=list)
@@ -57,21 +58,20 @@ def turned(top: pathlib.Path, crate: str, lines: list[str], sources: Sources) ->
 
 
 def edits(top: pathlib.Path, sources: Sources) -> Iterator[Evidence]:
-    """The mutants that name rules."""
+    """All mutants; not each of them names a rule."""
     for path in sorted(top.glob("crates/*/must-fail/*.edit")):
-        lines = path.read_text().splitlines()
-        if rules := tags(lines):
-            place = path.relative_to(top)
-            yield Evidence("edit", str(place), path.stem, rules, turned(top, place.parts[1], lines, sources))
+        lines, place = path.read_text().splitlines(), path.relative_to(top)
+        yield Evidence("edit", str(place), 1, path.stem, tags(lines), turned(top, place.parts[1], lines, sources))
 
 
 def rows(top: pathlib.Path) -> Iterator[Evidence]:
     """The rows that name rules."""
     for path in sorted(top.glob("rows/*.rows")):
-        parts = re.split(r"^== ", path.read_text(), flags=re.MULTILINE)
-        for name, *lines in (part.splitlines() for part in parts[1:]):
-            if rules := tags(lines):
-                yield Evidence("row", str(path.relative_to(top)), name, rules)
+        lines = path.read_text().splitlines()
+        heads = [at for at, line in enumerate(lines) if line.startswith("== ")]
+        for head, end in zip(heads, [*heads[1:], len(lines)]):
+            if rules := tags(lines[head:end]):
+                yield Evidence("row", str(path.relative_to(top)), head + 1, lines[head][3:], rules)
 
 
 def rattle_tests(top: pathlib.Path) -> Iterator[Evidence]:
@@ -83,7 +83,7 @@ def rattle_tests(top: pathlib.Path) -> Iterator[Evidence]:
                 continue
             if rules := tags(lines[first:index]):
                 found = re.match(r"#\[test\] fn (\w+)", " ".join(lines[index:index + 2]))
-                yield Evidence("test", str(path.relative_to(top)), found[1] if found else "", rules)
+                yield Evidence("test", str(path.relative_to(top)), index + 1, found[1] if found else "", rules)
             first = index + 1
 
 
@@ -97,7 +97,7 @@ def python_tests(top: pathlib.Path) -> Iterator[Evidence]:
         for node in ast.walk(ast.parse(text)):
             if isinstance(node, ast.FunctionDef) and node.name.startswith("test_") and node.end_lineno:
                 if rules := tags(lines[node.lineno - 1:node.end_lineno]):
-                    yield Evidence("test", str(path.relative_to(top)), node.name, rules)
+                    yield Evidence("test", str(path.relative_to(top)), node.lineno, node.name, rules)
 
 
 def misspelled(top: pathlib.Path) -> Iterator[str]:
@@ -120,5 +120,5 @@ def lost(top: pathlib.Path, evidence: list[Evidence]) -> Iterator[str]:
 
 
 def all_evidence(top: pathlib.Path, sources: Sources) -> list[Evidence]:
-    """All mutants, rows and tests that name rules."""
+    """All mutants, and the rows and tests that name rules."""
     return [*edits(top, sources), *rows(top), *rattle_tests(top), *python_tests(top)]

@@ -8,6 +8,7 @@ import re
 PAGES = ("docs/PROFILE.md", "docs/SCRIPT.md")
 # A rule has its definitions behind it: `publisher.cycle` (`next_due`)
 RULE = re.compile(r"`([a-z]+\.[a-z]+)`(?:\*\*)? \(((?:`[^`\s]+`(?:, )?)+)\)(?:\. \*\*(.*?)\*\*|: ([^;]*))?")
+HEADING = re.compile(r"##+ (.*)")
 # Each topic: its heading, and the promises that its rules serve (docs/PROOFS.md has the five).
 TOPICS = {
     "text": ("Texts", "rule"),
@@ -48,10 +49,13 @@ PROMISES = {
 
 @dataclasses.dataclass
 class Rule:
-    """A rule: its name, the page that says it, the definitions that this names, and its words, if they follow there."""
+    """A rule: its name, the page that says it, the heading and the line there, the definitions that the page names,
+    and the rule's words, if they follow there."""
 
     name: str
     page: str
+    heading: str
+    line: int
     definitions: list[str]
     words: str
 
@@ -71,10 +75,14 @@ def rules(top: pathlib.Path) -> tuple[list[Rule], list[str]]:
     found: dict[str, Rule] = {}
     faults = []
     for page in PAGES:
+        heading, line = "", 1
         for part in re.split(r"\n(?=- |\n)", (top / page).read_text()):
+            heading = next((head[1] for it in part.splitlines() if (head := HEADING.match(it))), heading)
             for name, definitions, bold, plain in RULE.findall(" ".join(part.split())):
                 if name in found or name.split(".")[0] not in TOPICS:
                     faults.append(f"{page}: {name}: is said twice, or is of no topic")
-                found[name] = Rule(name, page, re.findall(r"`([^`]+)`", definitions), bold or plain)
+                place = line + part[:part.index(f"`{name}`")].count("\n")
+                found[name] = Rule(name, page, heading, place, re.findall(r"`([^`]+)`", definitions), bold or plain)
+            line += part.count("\n") + 1
     faults += [f"docs/tools/trace_pages.py: {name}: no page has this rule" for name in PROMISES if name not in found]
     return list(found.values()), faults

@@ -31,9 +31,10 @@ class Id:
 
 @dataclasses.dataclass
 class Definition:
-    """A definition: its rules, what its remark says, and the text that it consists of."""
+    """A definition: the line at which it begins, its rules, what its remark says, and the text that it consists of."""
 
     id: Id
+    line: int
     rules: list[str]
     words: str
     text: str = ""
@@ -53,7 +54,7 @@ def definitions_in(crate: str, module: str, text: str) -> Iterator[Definition]:
     """The definitions of a file, in their order. A definition's remarks are the lines of `--` directly above it."""
     current: Definition | None = None
     above: list[str] = []
-    for line in text.splitlines():
+    for number, line in enumerate(text.splitlines(), 1):
         if line.startswith("--"):
             above.append(line)
             continue
@@ -65,7 +66,7 @@ def definitions_in(crate: str, module: str, text: str) -> Iterator[Definition]:
                     yield current
                 rules = [name for it in above if it.startswith(REMARK) for name in it.split()[2:]]
                 words = " ".join(it[3:] for it in above if not it.startswith(REMARK))
-                current = Definition(Id(crate, module, name), rules, words)
+                current = Definition(Id(crate, module, name), number, rules, words)
         above = []
         if current:
             current.text += line + "\n"

@@ -1,84 +1,83 @@
-"""The text of docs/TRACE.md, for docs/tools/trace."""
+"""The text that docs/tools/trace writes: docs/TRACE_TABLE.md, and the parts of docs/TRACE.md that are not written by
+hand.
+
+Links have no line numbers: these would change with each edit of a crate. `docs/tools/trace RULE` prints them.
+"""
 from __future__ import annotations
 
-import textwrap
+import pathlib
 from collections.abc import Iterable
 
 import gate_lines
 import trace_counts
 from trace_check import Trace
 from trace_evidence import KINDS, Evidence
+from trace_links import link, wrapped
+from trace_others import others
 from trace_pages import TOPICS, Rule
+from written_parts import with_part
 
-WIDTH = 120
-HOLDERS = 5
-LAWS = 2
-FRONT = "docs/tools/trace_front.md"
+SCRIPT = "docs/tools/trace"
+FRONT, TABLE, OTHERS = "docs/TRACE.md", "docs/TRACE_TABLE.md", "docs/TRACE_OTHERS.md"
+HEAD = f"""# The rules, one by one
 
-
-def wrapped(text: str, indent: str = "") -> str:
-    """A paragraph, or an item of a list."""
-    return textwrap.fill(text, WIDTH, subsequent_indent=indent, break_long_words=False, break_on_hyphens=False)
-
-
-def joined(names: Iterable[str]) -> str:
-    """Names between backticks."""
-    return ", ".join(f"`{name}`" for name in names)
+`{SCRIPT}` writes this page from the sources; [TRACE](TRACE.md) says how to read it. Links have no line numbers.
+`{SCRIPT} RULE` prints them, with all contracts that hold the rule."""
 
 
 def held(trace: Trace, rule: Rule) -> str:
-    """The clauses that hold a rule: the nearest ones, and how many more there are."""
-    found = trace.holders(rule)
-    functions, laws = ([it for it in found if it.is_law == is_law] for is_law in (False, True))
-    near = [it for it in functions if it.steps <= functions[0].steps + 1][:HOLDERS]
-    near += [it for it in laws if not functions or it.steps < functions[0].steps][:min(LAWS, HOLDERS - len(near))]
-    crates = sorted({it.crate for it in near}, key=[it.crate for it in near].index)
-    texts = [f"`{crate}` " + ", ".join(f"`{it.function}` ({it.clause})" for it in near if it.crate == crate)
-             for crate in crates]
-    more = len(found) - len(near)
-    return ("" if found[0].is_public else "private functions of ") + "; ".join(texts) + (
-        f"; and {more} more" if more else "")
+    """The functions that hold a rule, with their clauses: the nearest ones, and whether there are others."""
+    found, listed = trace.holders(rule), trace.listed(rule)
+    crates = dict.fromkeys(it.crate for it in listed)
+    texts = [f"`{crate}` " + ", ".join(f"{link(f'`{it.function}`', it.file)} ({', '.join(it.clauses)})" for it in listed
+                                       if it.crate == crate) for crate in crates]
+    private = "" if found[0].is_public else "private functions of "
+    return private + "; ".join(texts) + ("; and others" if len(found) > len(listed) else "")
 
 
 def evidence(it: Evidence, rule: Rule) -> str:
     """A mutant, a row or a test, with how it bears on a rule."""
-    text = {"edit": f"turned by `{it.name}` ({it.crate})", "row": f"shown by {it.file}, *{it.name}*",
-            "test": f"shown by {it.file}, `{it.name}`"}[it.kind]
-    return f"- {text}: {it.rules[rule.name]}"
+    kind = {"edit": "Mutant", "row": "Row", "test": "Test"}[it.kind]
+    name = it.name if it.kind == "row" else f"`{it.name}`"
+    return f"- {kind} {link(name, it.file)}: {it.rules[rule.name]}"
 
 
 def block(trace: Trace, rule: Rule) -> str:
     """A rule with all that is found of it."""
     found = trace.definitions(rule)
     words = rule.words or "; ".join(it.words for it in found)
-    items = [f"**`{rule.name}`** ({rule.promise}): {words}"]
-    where = "; ".join(f"`{it.id.name}` in {it.id.file}" for it in found)
-    items.append(f"- said in {rule.page}, defined as {where}")
-    items.append(f"- held by {held(trace, rule)}")
-    items += [evidence(it, rule) for kind in KINDS for it in trace.shown(rule, kind)]
-    return "\n".join([wrapped(items[0]), "", *(wrapped(it, "  ") for it in items[1:])])
+    page = link(pathlib.PurePath(rule.page).stem, rule.page, rule.heading)
+    items = [f"- Said in {page}; promise: {rule.promise}",
+             "- Definition " + ", ".join(link(f"`{it.id.name}`", it.id.file) for it in found),
+             f"- Held by {held(trace, rule)}",
+             *(evidence(it, rule) for kind in KINDS for it in trace.shown(rule, kind))]
+    return "\n".join([f"### `{rule.name}`", "", wrapped(words), "", *(wrapped(it, "  ") for it in items)])
 
 
-def table(trace: Trace, rules: list[Rule]) -> str:
-    """The rules of a topic at a glance: with the nearest clause, and how many mutants, rows and tests each has."""
-    lines = ["| Rule | Definition | Nearest clause | Mutants | Rows | Tests | Promise |", "|" + 7 * "---|"]
-    for rule in rules:
-        nearest = trace.holders(rule)[0]
-        clause = f"`{nearest.crate}` `{nearest.function}` ({nearest.clause})"
-        numbers = [str(len(trace.shown(rule, kind))) for kind in KINDS]
-        cells = [f"`{rule.name}`", joined(rule.definitions), clause, *numbers, rule.promise]
-        lines.append(f"| {' | '.join(cells)} |")
-    return "\n".join(lines)
-
-
-def written(trace: Trace) -> str:
-    """The page. Raises gate_lines.Fault if docs/gate.json is of no use."""
-    last_run = gate_lines.page_lines(gate_lines.last_run(trace.top))
-    front = (trace.top / FRONT).read_text().rstrip().replace(gate_lines.MARK, last_run)
-    front = front.replace(trace_counts.MARK, wrapped(trace_counts.sentence(trace)))
-    parts = [front, "## The rules by topic", trace_counts.table(trace)]
+def table(trace: Trace) -> str:
+    """docs/TRACE_TABLE.md."""
+    parts = [HEAD]
     for topic, (heading, _) in TOPICS.items():
         rules = [rule for rule in trace.rules if rule.topic == topic]
         if rules:
-            parts += [f"## {heading}", table(trace, rules), *(block(trace, rule) for rule in rules)]
+            parts += [f"## {heading}", *(block(trace, rule) for rule in rules)]
+    return page_of(parts)
+
+
+def page_of(parts: Iterable[str]) -> str:
+    """A page of these paragraphs."""
     return "\n\n".join(parts) + "\n"
+
+
+def front(trace: Trace) -> str:
+    """docs/TRACE.md, with the parts that are not written by hand. Raises gate_lines.Fault if docs/gate.json is of no
+    use, and written_parts.NoPlace if a part has no place."""
+    page = (trace.top / FRONT).read_text()
+    page = with_part(page, SCRIPT, "the numbers", wrapped(trace_counts.sentence(trace)))
+    page = with_part(page, SCRIPT, "the topics", trace_counts.table(trace, TABLE))
+    return with_part(page, SCRIPT, "the last whole run", gate_lines.page_lines(gate_lines.last_run(trace.top)))
+
+
+def written(trace: Trace) -> dict[str, str]:
+    """Each page with its text. Raises what `front` does."""
+    return {FRONT: front(trace), TABLE: table(trace), OTHERS: page_of(others(trace))}
