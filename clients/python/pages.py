@@ -1,8 +1,9 @@
 """Pages of docs/ that are played: their blocks, what is typed in them, and the folder in which it is typed.
 
-test_page.py plays docs/CLIENTS.md, and docs/tools/play_tutorial plays docs/TUTORIAL.md. A line of a block that begins
-with `$` is typed, and one with `#` by root. `doors$` is typed in the terminal of that name, and `doors>` to the program
-that runs there. What follows, up to the next such line or the end of the block, is printed.
+test_page.py plays docs/CLIENTS.md, docs/PYTHON.md and docs/C.md, and docs/tools/play_tutorial plays docs/TUTORIAL.md.
+A line of a block that begins with `$` is typed, and one with `#` by root. `doors$` is typed in the terminal of that
+name, and `doors>` to the program that runs there. What follows, up to the next such line or the end of the block, is
+printed.
 """
 from __future__ import annotations
 

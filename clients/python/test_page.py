@@ -1,7 +1,8 @@
-"""docs/CLIENTS.md as it is printed: its files are written, its commands typed, and what they print is compared.
+"""docs/CLIENTS.md, docs/PYTHON.md and docs/C.md as they are printed: their files are written, their commands typed, and
+what they print is compared.
 
-The page's nodes are at 127.0.0.1 and 127.0.0.2; here they have addresses of their own, and the page is read with these.
-What is typed and what is printed is read by pages.py; the numbers that count aren't compared.
+The pages' nodes are at 127.0.0.1 and 127.0.0.2; here they have addresses of their own, and the pages are read with
+these. What is typed and what is printed is read by pages.py; the numbers that count aren't compared.
 """
 from __future__ import annotations
 
@@ -15,6 +16,7 @@ import unittest
 from pages import Block, Folder, Step, blocks
 from testing import TOP, has_groups, wait_until
 
+PAGES = ("CLIENTS", "PYTHON", "C")
 ADDRESSES = {"127.0.0.1": "127.0.8.30", "127.0.0.2": "127.0.8.31", "127.0.0.3": "127.0.8.34", "127.0.9.": "127.0.8.",
              "0x7f000002": "0x7f00081f", "239.192.0.1": "239.192.8.34"}
 # How long a client waits for an answer: as it is written, and how it is here, where a daemon may stand still.
@@ -37,8 +39,8 @@ def patient(text: str) -> str:
     return text
 
 
-class Page(unittest.TestCase):
-    """All that the page says to type, in its order."""
+class Pages(unittest.TestCase):
+    """All that the pages say to type, in the order of a reader of all three."""
 
     def setUp(self) -> None:
         self.folder = Folder(["clients/python", "wireshark"])
@@ -49,7 +51,7 @@ class Page(unittest.TestCase):
             for file in (TOP / name).iterdir():
                 if file.suffix in (".toml", ".c", ".h"):
                     (self.top / name / file.name).write_text(patient(here(file.read_text())))
-        self.blocks = list(blocks(here((TOP / "docs/CLIENTS.md").read_text())))
+        self.blocks = [it for page in PAGES for it in blocks(here((TOP / f"docs/{page}.md").read_text()))]
 
     def block(self, beginning: str) -> Block:
         """The one block that begins so."""
@@ -92,7 +94,7 @@ class Page(unittest.TestCase):
             self.assertTrue(self.folder.await_ports(process, command), command)
 
     def write(self, name: str, beginning: str) -> None:
-        """Writes a file of the page: the block that begins so."""
+        """Writes a file of a page: the block that begins so."""
         (self.top / name).write_text(patient(self.block(beginning).code))
 
     def test_all(self) -> None:

@@ -16,11 +16,11 @@ from two_daemons import DESK, DOOR, SINK, Case
 
 
 class Programs(Case):
-    """The programs of docs/CLIENTS.md, and examples/control/client.py."""
+    """The programs of docs/PYTHON.md, and examples/control/client.py."""
 
     def programs(self) -> list[str]:
         """The programs in Python of the page."""
-        page = (testing.TOP / "docs/CLIENTS.md").read_text()
+        page = (testing.TOP / "docs/PYTHON.md").read_text()
         blocks = re.findall(r"^    from trdp_slot import .*\n(?:    .*\n|\n)*", page, re.MULTILINE)
         return [textwrap.dedent(it) for it in blocks]
 

@@ -6,7 +6,7 @@
         status = doors.publish(2101, "10.0.0.2:17224", dataset=5002, cycle_us=100_000)
         doors.put(status, [4, [0, 0, 0, 0], 0])
 
-This one file needs Linux and the standard library of Python 3.11 alone, and can be copied. docs/CLIENTS.md says how
+This one file needs Linux and the standard library of Python 3.11 alone, and can be copied. docs/PYTHON.md says how
 it is used, and docs/SCRIPT.md what each call does and when it is refused.
 
 All times are whole numbers of microseconds, and named so: `cycle_us`. Addresses are texts such as "10.0.0.2", places
