@@ -207,21 +207,18 @@ class Pages(unittest.TestCase):
             process.wait(20)
 
     def controls(self) -> None:
-        """Programs at a control socket, of which one is there first. The others say so, whether they are closed before
-        they have sent a line or after that."""
+        """A program at a control socket is there first. Others say so, whether they are closed before they have sent a
+        line or after that."""
         self.folder.end_all()
         made, daemon = self.steps("$ mkdir -m 700 sockets")
         self.prints(made)
         self.start_daemons(daemon.text)
         self.write("lines.py", "import contextlib\nimport socket\n")
-        self.write("lines.c", "#include <stdio.h>\n#include <string.h>")
-        first, again, compiling, second = self.steps("$ python3 lines.py &")
+        first, again = self.steps("$ python3 lines.py &")
         self.begins(first)
         for _ in range(20):
             process = self.begin(again.text)
             self.assertEqual((process.communicate(timeout=60)[0].splitlines(), process.returncode), (again.shown, 1))
-        self.prints(compiling)
-        self.prints(second)
 
 
 if __name__ == "__main__":
