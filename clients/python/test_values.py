@@ -221,7 +221,7 @@ class Configurations(unittest.TestCase):
 
 def docs_telegram(kind: bytes, counter: int, com_id: int, payload: bytes, etb: int = 0, op_trn: int = 0,
                   reply_com_id: int = 0, reply_address: int = 0) -> bytes:
-    """As docs/SCRIPT.md makes one."""
+    """By the table of bytes in docs/SCRIPT.md."""
     head = struct.pack(">IH2s7I", counter, 0x0100, kind, com_id, etb, op_trn, len(payload), 0, reply_com_id,
                        reply_address)
     return head + struct.pack("<I", zlib.crc32(head)) + payload + bytes(-len(payload) % 4)
@@ -229,7 +229,7 @@ def docs_telegram(kind: bytes, counter: int, com_id: int, payload: bytes, etb: i
 
 def docs_message(kind: bytes, com_id: int, payload: bytes, session: int = 0, status: int = 0, time: int = 0,
                  source_uri: bytes = b"", dest_uri: bytes = b"", etb: int = 0, op_trn: int = 0) -> bytes:
-    """As docs/SCRIPT.md makes one."""
+    """By the table of bytes in docs/SCRIPT.md."""
     head = struct.pack(">IH2s4Ii", 0, 0x0100, kind, com_id, etb, op_trn, len(payload), status)
     head += session.to_bytes(16, "big") + struct.pack(">I", time)
     head += source_uri.ljust(32, b"\0") + dest_uri.ljust(32, b"\0")
