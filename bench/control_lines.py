@@ -2,7 +2,7 @@
 """What a line costs at a control socket, beside one at a UDP control port, and what an application that doesn't read
 receives.
 
-    bench/control_lines.py [LINES] [NOTIFICATIONS] [PROGRAM]
+    bench/control_lines.py [LINES] [NOTIFICATIONS] [PROGRAM] [--save]
                           default: 100000 100000 crates/trdpd/out/trdpd (./run prove builds it)
 
 Two daemons at 127.0.0.1, one with control sockets and one with UDP control ports, are sent LINES lines `get 1` in
@@ -18,6 +18,7 @@ from __future__ import annotations
 
 import contextlib
 import os
+import pathlib
 import re
 import socket
 import statistics
@@ -29,7 +30,8 @@ import time
 import zlib
 from collections.abc import Iterator
 
-TOP = os.path.dirname(os.path.dirname(os.path.abspath(__file__)))
+import results
+
 HOST = "127.0.0.1"
 ROUNDS = 5
 WINDOWS = (1, 64)
@@ -109,8 +111,9 @@ def exchange(client: socket.socket, count: int, window: int) -> None:
             said += more
 
 
-def lines(nodes: dict[str, Node], count: int) -> None:
-    """Tells what a line costs at each node."""
+def lines(nodes: dict[str, Node], count: int) -> list[dict[str, object]]:
+    """Prints what a line costs at each node, and returns it."""
+    rows: list[dict[str, object]] = []
     found: dict[tuple[str, int], list[tuple[float, float]]] = {}
     clients = {name: node.client(0) for name, node in nodes.items()}
     for _ in range(ROUNDS):
@@ -123,8 +126,10 @@ def lines(nodes: dict[str, Node], count: int) -> None:
     for (name, window), rounds in sorted(found.items(), key=lambda it: it[0][1]):
         rate, cost = (statistics.median(it) for it in zip(*rounds))
         print(f"{name}, {window} unanswered: {rate:.0f} lines a second, {cost:.2f} microseconds of processor time each")
+        rows.append({"port": name, "unanswered": window, "lines_per_second": rate, "us": cost})
     for client in clients.values():
         client.close()
+    return rows
 
 
 def notification(com_id: int, payload: bytes) -> bytes:
@@ -165,8 +170,9 @@ def are_told(client: socket.socket, source: str, count: int) -> tuple[int, int]:
     return came, lost
 
 
-def losses(node: Node, count: int) -> int:
-    """Has that many notifications come to an application that doesn't read; answers the exit status."""
+def losses(node: Node, count: int) -> dict[str, float]:
+    """Has that many notifications come to an application that doesn't read; prints what became of them, and returns
+    it."""
     application, fence = node.client(0), node.client(1)
     udp = (socket.AF_INET, socket.SOCK_DGRAM)
     with socket.socket(*udp) as sink, socket.socket(*udp) as device:
@@ -192,7 +198,8 @@ def losses(node: Node, count: int) -> int:
     missing = counters[-1] - counters[0] + 1 - len(counters)
     print(f"{count} notifications in {took:.1f} s, {used / count * 1e6:.1f} microseconds of processor time each: "
           f"{came} are told, {lost} lost; {len(counters)} telegrams of {took / CYCLE:.0f} cycles, {missing} missing")
-    return 0 if came + lost == count and missing == 0 else 1
+    return {"notifications": count, "seconds": took, "us": used / count * 1e6, "received": came, "lost": lost,
+            "telegrams": len(counters), "telegrams_missing": missing}
 
 
 def counter_of(telegram: bytes) -> int:
@@ -200,18 +207,28 @@ def counter_of(telegram: bytes) -> int:
     return int.from_bytes(telegram[:4], "big")
 
 
-def main(count: str = "100000", notifications: str = "100000", program: str = f"{TOP}/crates/trdpd/out/trdpd") -> int:
-    if not os.path.exists(program):
-        sys.exit(f"control_lines.py: {program} is missing: ./run prove builds it")
+def main() -> int:
+    parser = results.arguments(__doc__)
+    parser.add_argument("lines", nargs="?", type=int, default=100_000)
+    parser.add_argument("notifications", nargs="?", type=int, default=100_000)
+    parser.add_argument("program", nargs="?", type=pathlib.Path, default=results.PROGRAM)
+    given = parser.parse_args()
+    if not given.program.exists():
+        sys.exit(f"control_lines.py: {given.program} is missing: ./run prove builds it")
     with tempfile.TemporaryDirectory() as folder:
-        nodes = {name: Node(program, folder, it) for name, it in (("control socket", True), ("UDP port", False))}
+        nodes = {name: Node(str(given.program), folder, it)
+                 for name, it in (("control socket", True), ("UDP port", False))}
         try:
-            lines(nodes, int(count))
-            return losses(nodes["control socket"], int(notifications))
+            rows = lines(nodes, given.lines)
+            lost = losses(nodes["control socket"], given.notifications)
         finally:
             for node in nodes.values():
                 node.end()
+    is_right = lost["received"] + lost["lost"] == given.notifications and lost["telegrams_missing"] == 0
+    if given.save and is_right:
+        results.save("control_lines", {"lines": rows, "losses": lost}, proved=results.is_proved(given.program))
+    return 0 if is_right else 1
 
 
 if __name__ == "__main__":
-    sys.exit(main(*sys.argv[1:]))
+    sys.exit(main())

@@ -1,7 +1,7 @@
 #!/usr/bin/env python3
 """How many instructions `trdpd run` needs for a line, counted by valgrind, so that any machine counts the same.
 
-    bench/instructions.py [PROGRAM]               default: crates/trdpd/out/trdpd (./run prove builds it)
+    bench/instructions.py [PROGRAM] [--save]      default: crates/trdpd/out/trdpd (./run prove builds it)
 
 A script of equal lines is played, and one of twice as many: the cost of a line is the difference. Reading and
 printing are in it. Five kinds of lines: a call that puts two bytes, a telegram of process data that one of 4,096
@@ -10,14 +10,15 @@ which nothing is due, and a request that one of 4,096 listeners hears with the c
 """
 from __future__ import annotations
 
+import pathlib
 import re
 import subprocess
-import sys
 import tempfile
 from collections.abc import Callable, Iterable, Iterator
 
+import results
 from alone.telegrams import Message, write_md
-from many_objects import LATE, TAKEN, TOP, config, moments, publishers, subscriptions, telegrams
+from many_objects import LATE, TAKEN, config, moments, publishers, subscriptions, telegrams
 
 LINES = 500
 OBJECTS, SLOTS = 256, 16                          # of the telegram that is taken; a moment's publishers are of one slot
@@ -79,11 +80,17 @@ def measured(program: str) -> list[tuple[str, float]]:
     ]
 
 
-def main(words: list[str]) -> None:
-    program = words[0] if words else f"{TOP}/crates/trdpd/out/trdpd"
-    for name, count in measured(program):
+def main() -> None:
+    parser = results.arguments(__doc__)
+    parser.add_argument("program", nargs="?", type=pathlib.Path, default=results.PROGRAM)
+    given = parser.parse_args()
+    rows = measured(str(given.program))
+    for name, count in rows:
         print(f"{name:16}{count:8.0f}")
+    if given.save:
+        found = [{"line": name, "instructions": round(count)} for name, count in rows]
+        results.save("instructions", {"rows": found}, proved=results.is_proved(given.program))
 
 
 if __name__ == "__main__":
-    main(sys.argv[1:])
+    main()

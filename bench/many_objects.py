@@ -1,7 +1,8 @@
 #!/usr/bin/env python3
 """What an event costs where slots have many objects: nanoseconds of processor time of `trdpd run`.
 
-    bench/many_objects.py [LINES] [PROGRAM]       default: 400000 lines, crates/trdpd/out/trdpd (./run prove builds it)
+    bench/many_objects.py [LINES] [PROGRAM] [--save]
+                                  default: 400000 lines, crates/trdpd/out/trdpd (./run prove builds it)
 
 Each row plays a script of LINES equal lines from a file to a file, with its number of objects open, and again without
 them: the cost of a line is that of the longer script less that of its first half, the least of five runs. Reading and
@@ -11,12 +12,15 @@ checks are zlib's.
 from __future__ import annotations
 
 import os
+import pathlib
 import struct
 import subprocess
 import sys
 import tempfile
 import zlib
 from collections.abc import Callable, Iterable, Iterator
+
+import results
 
 TOP = os.path.dirname(os.path.dirname(os.path.abspath(__file__)))
 RUNS = 5
@@ -106,15 +110,23 @@ def rows(objects: int, slots: int, count: int) -> Iterator[Row]:
 
 
 def main() -> None:
-    count = int(sys.argv[1]) if len(sys.argv) > 1 else 400_000
-    program = sys.argv[2] if len(sys.argv) > 2 else f"{TOP}/crates/trdpd/out/trdpd"
+    parser = results.arguments(__doc__)
+    parser.add_argument("lines", nargs="?", type=int, default=400_000)
+    parser.add_argument("program", nargs="?", type=pathlib.Path, default=results.PROGRAM)
+    given = parser.parse_args()
+    found = []
     print("objects a slot  slots   taken nobody's nothing due  one due  each of all due")
     for objects, slots in COUNTS:
         with tempfile.NamedTemporaryFile("w", suffix=".toml") as settings:
             settings.write(config(slots))
             settings.flush()
-            taken, unknown, idle, one, each = (it.cost(program, settings.name) for it in rows(objects, slots, count))
+            taken, unknown, idle, one, each = (it.cost(str(given.program), settings.name)
+                                               for it in rows(objects, slots, given.lines))
+        found.append({"objects": objects, "slots": slots, "accepted_ns": taken, "nobodys_ns": unknown,
+                      "nothing_due_ns": idle, "one_due_ns": one, "each_due_ns": each})
         print(f"{objects:14}{slots:7}{taken:8.0f}{unknown:9.0f}{idle:12.0f}{one:9.0f}{each:17.0f}", flush=True)
+    if given.save:
+        results.save("many_objects", {"rows": found}, proved=results.is_proved(given.program))
 
 
 if __name__ == "__main__":

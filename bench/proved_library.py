@@ -1,4 +1,4 @@
-"""Builds proved code as a static library and runs a program of bench/ that is linked with it."""
+"""Builds proved code as a static library, and a program of bench/ that is linked with it."""
 from __future__ import annotations
 
 import os
@@ -29,15 +29,10 @@ def write(path: str, text: str) -> None:
         out.write(text)
 
 
-def play(program: str) -> None:
-    """Runs a program."""
-    subprocess.run([program], check=True)
-
-
-def run(program: str, names: list[str], sources: dict[str, str], links: Sequence[str] = (),
-        use: Callable[[str], None] = play) -> None:
-    """Runs bench/PROGRAM.rs with a library for C of these sources, by file name, which uses the named crates; or has
-    it used in another way.
+def run(program: str, names: list[str], sources: dict[str, str], use: Callable[[str], None],
+        links: Sequence[str] = ()) -> None:
+    """Builds bench/PROGRAM.rs with a library for C of these sources, by file name, which uses the named crates, and has
+    the built program used.
 
     The library is proved and built in a folder of its own; what is built of the crates is taken along. Both compilers
     build for x86-64-v2.

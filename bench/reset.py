@@ -1,7 +1,7 @@
 #!/usr/bin/env python3
 """What it costs to reset a slot.
 
-    bench/reset.py [SECONDS] [PROGRAM]            default: 20 seconds, crates/trdpd/out/trdpd (./run prove builds it)
+    bench/reset.py [SECONDS] [PROGRAM] [--save]   default: 20 seconds, crates/trdpd/out/trdpd (./run prove builds it)
 
 First how long the answer to `reset` takes over a control port of `trdpd serve`, where the node has 16 slots and each
 has all its 1,536 objects, 256 of each kind, beside one of a slot that has none: in turns, the median of each. Then how
@@ -12,6 +12,7 @@ does nothing. All is at 127.0.0.1.
 from __future__ import annotations
 
 import os
+import pathlib
 import signal
 import socket
 import statistics
@@ -19,8 +20,9 @@ import sys
 import time
 from collections.abc import Iterable, Iterator
 
+import results
 from alone.telegrams import Message, write_md
-from rest import HOST, TOP, Node, share, telegrams
+from rest import HOST, Node, share, telegrams
 
 SLOTS, OBJECTS = 16, 256
 KINDS = ("publishers", "subscriptions", "requesters", "listeners", "callers", "repliers")
@@ -127,18 +129,27 @@ def late(program: str, seconds: int, beside: bool) -> list[float]:
     return lateness(came)
 
 
-def main(words: list[str]) -> None:
-    seconds = int(words[0]) if words else 20
-    program = words[1] if len(words) > 1 else f"{TOP}/crates/trdpd/out/trdpd"
-    full, empty = resets(program)
+def main() -> None:
+    parser = results.arguments(__doc__)
+    parser.add_argument("seconds", nargs="?", type=int, default=20)
+    parser.add_argument("program", nargs="?", type=pathlib.Path, default=results.PROGRAM)
+    given = parser.parse_args()
+    full, empty = resets(str(given.program))
     objects = OBJECTS * len(KINDS)
     print(f"reset of {objects} objects beside {objects * (SLOTS - 1)} others: {full:.0f} microseconds, "
           f"of none {empty:.0f}")
+    found: dict[str, dict[str, float]] = {}
     for name, beside in (("alone", False), ("beside fills and resets", True)):
-        times = late(program, seconds, beside)
+        times = late(str(given.program), given.seconds, beside)
+        found["beside" if beside else "alone"] = {
+            "median_us": share(times, 0.5), "p99_us": share(times, 0.99), "most_us": max(times), "samples": len(times)}
         print(f"late, {name}: median {share(times, 0.5):.0f}, 99 % {share(times, 0.99):.0f}, most {max(times):.0f} "
               "microseconds")
+    if given.save:
+        figures = {"objects": objects, "others": objects * (SLOTS - 1), "full_us": full, "empty_us": empty,
+                   "late": found}
+        results.save("reset", figures, proved=results.is_proved(given.program))
 
 
 if __name__ == "__main__":
-    main(sys.argv[1:])
+    main()

@@ -4,6 +4,7 @@ A file has the figures, and what they were measured of, when, where and by which
 """
 from __future__ import annotations
 
+import argparse
 import dataclasses
 import datetime
 import json
@@ -23,6 +24,8 @@ sys.path.insert(0, str(TOP / "package"))
 import record  # noqa: E402
 
 FOLDER = TOP / "bench/results"
+PROGRAM = TOP / record.PLACES["proved"]
+"""The program that ./run prove makes."""
 DIGITS = 4
 """Significant digits of a figure that is no whole number: a measurement has no more."""
 
@@ -37,6 +40,13 @@ class Machine:
     kernel: str
     hypervisor: str | None
     """The hypervisor's name, `unnamed` if the machine only says that there is one, or None."""
+
+
+def arguments(doc: str | None) -> argparse.ArgumentParser:
+    """A parser whose help is what a script says of itself, with the option by which it saves its result."""
+    parser = argparse.ArgumentParser(description=doc, formatter_class=argparse.RawDescriptionHelpFormatter)
+    parser.add_argument("--save", action="store_true", help="write the result into bench/results/")
+    return parser
 
 
 def is_proved(program: pathlib.Path) -> bool:

@@ -1,7 +1,8 @@
 #!/usr/bin/env python3
 """How fast trdpd plays scripts: lines a second of processor time, and the most memory that it held.
 
-    bench/script_lines.py [LINES] [PROGRAM]       default: 1000000 lines, crates/trdpd/out/trdpd (./run prove builds it)
+    bench/script_lines.py [LINES] [PROGRAM] [--save]
+                                 default: 1000000 lines, crates/trdpd/out/trdpd (./run prove builds it)
 
 Two scripts of that many lines over examples/node.toml are played from a file to a file: puts alone, and a mix of
 moments, puts, datagrams that a subscription takes, and gets. The telegrams' frame checks are zlib's.
@@ -9,6 +10,7 @@ moments, puts, datagrams that a subscription takes, and gets. The telegrams' fra
 from __future__ import annotations
 
 import os
+import pathlib
 import struct
 import subprocess
 import sys
@@ -16,6 +18,8 @@ import tempfile
 import time
 import zlib
 from collections.abc import Iterable, Iterator
+
+import results
 
 TOP = os.path.dirname(os.path.dirname(os.path.abspath(__file__)))
 OPEN = ["call 0 publish 100 0 100000 0 0 0 10.0.0.2:17224", "call 0 subscribe 200 0 0.0.0.0 0.0.0.0 0.0.0.0 0 0 0 keep"]
@@ -52,7 +56,7 @@ def peak(pid: int) -> int:
         return next((int(line.split()[1]) for line in status if line.startswith("VmHWM:")), 0)
 
 
-def play(program: str, lines: Iterable[str]) -> tuple[float, int, int]:
+def play(program: pathlib.Path, lines: Iterable[str]) -> tuple[float, int, int]:
     """Plays the lines; answers seconds of processor time, the most memory in KiB, and the lines that came out."""
     with tempfile.TemporaryFile() as script, tempfile.TemporaryFile() as out:
         for line in lines:
@@ -71,13 +75,19 @@ def play(program: str, lines: Iterable[str]) -> tuple[float, int, int]:
 
 
 def main() -> None:
-    count = int(sys.argv[1]) if len(sys.argv) > 1 else 1_000_000
-    program = sys.argv[2] if len(sys.argv) > 2 else f"{TOP}/crates/trdpd/out/trdpd"
+    parser = results.arguments(__doc__)
+    parser.add_argument("lines", nargs="?", type=int, default=1_000_000)
+    parser.add_argument("program", nargs="?", type=pathlib.Path, default=results.PROGRAM)
+    given = parser.parse_args()
+    rows = []
     print(f"{'script':8}{'lines':>10}{'seconds':>9}{'lines/s':>12}{'peak MiB':>10}{'lines out':>11}")
     for name, lines in (("puts", puts), ("mixed", mixed)):
-        for size in (count // 10, count):
-            seconds, memory, out = play(program, lines(size))
+        for size in (given.lines // 10, given.lines):
+            seconds, memory, out = play(given.program, lines(size))
+            rows.append({"script": name, "lines": size, "seconds": seconds, "peak_kib": memory, "lines_out": out})
             print(f"{name:8}{size:10}{seconds:9.2f}{size / seconds:12.0f}{memory / 1024:10.1f}{out:11}")
+    if given.save:
+        results.save("script_lines", {"rows": rows}, proved=results.is_proved(given.program))
 
 
 if __name__ == "__main__":

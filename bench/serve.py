@@ -1,7 +1,7 @@
 #!/usr/bin/env python3
 """What `trdpd serve` costs: processor time a turn and a datagram, against a bare loop over the same sockets.
 
-    bench/serve.py [TURNS] [PROGRAM]              default: 200000 turns, crates/trdpd/out/trdpd (./run prove builds it)
+    bench/serve.py [TURNS] [PROGRAM] [--save]     default: 200000 turns, crates/trdpd/out/trdpd (./run prove builds it)
 
 bench/bare_loop.rs, which rustc builds, is that loop: the same clock, ports, turns and numbers of datagrams of the same
 size, and no protocol. Each row is run up to three times, one program after the other, and the least processor time
@@ -12,6 +12,7 @@ system calls are counted too. It takes some 20 seconds, twice as long on a busy 
 from __future__ import annotations
 
 import os
+import pathlib
 import re
 import shutil
 import signal
@@ -23,6 +24,8 @@ import tempfile
 import time
 import zlib
 from collections.abc import Sequence
+
+import results
 
 TOP = os.path.dirname(os.path.dirname(os.path.abspath(__file__)))
 HOST = "127.0.0.1"
@@ -257,8 +260,9 @@ def compare(bench: Bench, row: Row, turns: int, idle: list[float]) -> list[float
     return best
 
 
-def measure(bench: Bench, turns: int) -> None:
-    """Prints a line for each row."""
+def measure(bench: Bench, turns: int) -> list[dict[str, object]]:
+    """Prints a line for each row, and returns the rows."""
+    found: list[dict[str, object]] = []
     print(f"{'microseconds of processor time':34}{'serve':>9}{'bare':>9}{'ratio':>8}{'serve/s':>12}")
     idle = [0.0, 0.0]
     for row in ROWS:
@@ -267,6 +271,8 @@ def measure(bench: Bench, turns: int) -> None:
             idle = best
         print(f"{row.name:34}{best[0] * 1e6:9.3f}{best[1] * 1e6:9.3f}{best[0] / best[1]:8.2f}{1 / best[0]:12.0f}",
               flush=True)
+        found.append({"row": row.name, "serve_us": best[0] * 1e6, "bare_us": best[1] * 1e6})
+    return found
 
 
 def count_calls(bench: Bench, turns: int, words: list[str], row: Row) -> dict[str, int]:
@@ -278,29 +284,35 @@ def count_calls(bench: Bench, turns: int, words: list[str], row: Row) -> dict[st
     return {name: int(count) for count, name in rows if name != "total"}
 
 
-def watch(bench: Bench, turns: int) -> None:
-    """Prints the system calls of idle turns, and those for memory of few and of many turns."""
+def watch(bench: Bench, turns: int) -> dict[str, object]:
+    """Prints the system calls of idle turns, and those for memory of few and of many turns, and returns them."""
     if not shutil.which("strace"):
         print("strace isn't there: system calls aren't counted")
-        return
+        return {}
     idle = 10_000
     calls = count_calls(bench, idle, [], IDLE)
-    often = [f"{name} {count}" for name, count in calls.items() if count >= idle / 10]
-    print(f"system calls of {idle} idle turns:", *often)
+    often = {name: count for name, count in calls.items() if count >= idle / 10}
+    print(f"system calls of {idle} idle turns:", *(f"{name} {count}" for name, count in often.items()))
     # Only these calls stop for strace, so that the turns stay fast.
     memory = ["--seccomp-bpf", "-e", "trace=memory"]
+    found = []
     for row in (WANTED, PUT, CYCLIC):
         few, many = (sum(count_calls(bench, turns * times, memory, row).values()) for times in (1, 3))
         print(f"system calls for memory, {row.name}: {few} in {turns} turns, {many} in {turns * 3}", flush=True)
+        found.append({"row": row.name, "turns": turns, "calls": few, "calls_of_three_times_as_many": many})
+    return {"idle_turns": idle, "idle_calls": often, "memory": found}
 
 
 def main() -> None:
-    turns = int(sys.argv[1]) if len(sys.argv) > 1 else 200_000
-    program = sys.argv[2] if len(sys.argv) > 2 else f"{TOP}/crates/trdpd/out/trdpd"
+    parser = results.arguments(__doc__)
+    parser.add_argument("turns", nargs="?", type=int, default=200_000)
+    parser.add_argument("program", nargs="?", type=pathlib.Path, default=results.PROGRAM)
+    given = parser.parse_args()
     with tempfile.TemporaryDirectory() as folder:
-        bench = Bench(program, folder)
-        measure(bench, turns)
-        watch(bench, turns)
+        bench = Bench(str(given.program), folder)
+        figures = {"rows": measure(bench, given.turns), "system_calls": watch(bench, given.turns)}
+    if given.save:
+        results.save("serve", figures, proved=results.is_proved(given.program))
 
 
 if __name__ == "__main__":
