@@ -1,5 +1,5 @@
 //! What it costs to send on time without a node: it sleeps until the next telegram is due, looks once behind each sleep what came, answers
-//! that, and sends all that is due. It looks into no datagram. bench/idle_cost.py compares `trdpd daemon` with it.
+//! that, and sends all that is due. It looks into no datagram. `bench/daemon.py idle` compares `trdpd daemon` with it.
 //!
 //!     bare_rest CYCLE LENGTH REPLY PIECES SINK PORT.. < PHASES
 //!

@@ -1,6 +1,6 @@
 """Whatever comes in is taken at once: out of quiet, beside a flood, and where the daemon goes before all others.
 
-How long it takes, and what it costs, bench/rest.py and bench/calls_a_telegram.py measure.
+How long it takes, and what it costs, `bench/daemon.py rest` and `bench/daemon.py calls` measure.
 """
 from __future__ import annotations
 
