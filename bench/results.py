@@ -1,6 +1,7 @@
-"""Writes what a script of bench/ has measured into bench/results/, which bench/tables makes the pages' tables from.
+"""Writes what a script of bench/ has measured into bench/results/, and reads it for bench/tables.
 
-A file has the figures, and what they were measured of, when, where and by which command.
+A file has the figures, the commit, the date, the machine and the command; how many minutes the script took; and whether
+the program that was measured is proved.
 """
 from __future__ import annotations
 
@@ -17,7 +18,9 @@ import shlex
 import shutil
 import subprocess
 import sys
+import time
 from collections.abc import Mapping
+from typing import Any
 
 TOP = pathlib.Path(__file__).resolve().parent.parent
 sys.path.insert(0, str(TOP / "package"))
@@ -26,8 +29,14 @@ import record  # noqa: E402
 FOLDER = TOP / "bench/results"
 PROGRAM = TOP / record.PLACES["proved"]
 """The program that ./run prove makes."""
+BEGUN = time.monotonic()
+"""When the script began, as far as this module knows."""
 DIGITS = 4
 """Significant digits of a figure that is no whole number: a measurement has no more."""
+
+
+class Fault(Exception):
+    """Why a result cannot be used."""
 
 
 @dataclasses.dataclass(frozen=True)
@@ -40,6 +49,20 @@ class Machine:
     kernel: str
     hypervisor: str | None
     """The hypervisor's name, `unnamed` if the machine only says that there is one, or None."""
+
+
+@dataclasses.dataclass(frozen=True)
+class Result:
+    """What a file has."""
+
+    name: str
+    figures: Mapping[str, Any]
+    date: str
+    """The day in UTC, as 2026-11-30."""
+    machine: Machine
+    minutes: float
+    """How long the script took."""
+    proved: bool
 
 
 def arguments(doc: str | None) -> argparse.ArgumentParser:
@@ -116,6 +139,7 @@ def save(name: str, figures: Mapping[str, object], *, proved: bool) -> pathlib.P
         "date": datetime.datetime.now(datetime.UTC).date().isoformat(),
         "machine": dataclasses.asdict(machine()),
         "command": command(),
+        "minutes": rounded((time.monotonic() - BEGUN) / 60),
         "proved": proved,
     }
     FOLDER.mkdir(exist_ok=True)
@@ -125,3 +149,16 @@ def save(name: str, figures: Mapping[str, object], *, proved: bool) -> pathlib.P
     part.replace(path)
     print(f"saved: {path.relative_to(TOP)}")
     return path
+
+
+def load(name: str, folder: pathlib.Path = FOLDER) -> Result | None:
+    """What was measured last under that name; None if nothing was. Raises Fault if the file cannot be read."""
+    path = folder / f"{name}.json"
+    if not path.exists():
+        return None
+    try:
+        found = json.loads(path.read_text("utf-8"))
+        return Result(name, found["figures"], found["date"], Machine(**found["machine"]), found["minutes"],
+                      found["proved"])
+    except (OSError, ValueError, KeyError, TypeError) as why:
+        raise Fault(f"{path.name} is no result: {type(why).__name__}: {why}") from None
