@@ -1,8 +1,7 @@
 #!/usr/bin/env python3
 """Each slot of a node beside the same slot by itself, over events by chance.
 
-    bench/alone.py [EVENTS [SEED [PROGRAM]]] [--save]
-                                                  default: 40000 events, seed 1, $TRDPD or crates/trdpd/out/trdpd
+    bench/alone.py [EVENTS [SEED [PROGRAM]]]      default: 40000 events, seed 1, $TRDPD or crates/trdpd/out/trdpd
     bench/alone.py rows
     bench/alone.py limits [PROGRAM]
 
@@ -11,7 +10,7 @@ itself, which has a list of its objects and looks at each of them at every event
 crates, and no slot knows of another. Events by chance, some 5000 for each of several nodes, are played by the program
 and by each slot by itself: each event has to give the lines that the slots give, slots rising. A run says how often
 each kind of line came, and fails where one never came that chance can reach. SEED `clock` takes the seed from the
-clock; it is printed. `--save` writes how many events were compared into bench/results/alone.json.
+clock; it is printed.
 
 With `rows` the slots by themselves play all scripts that are in the repository with their output: those of rows/
 whose configuration is accepted, and the examples. With `limits` both play a node at every limit, and a publisher's
@@ -20,7 +19,6 @@ first ten thousand telegrams. The exit status is 0 where all is alike.
 from __future__ import annotations
 
 import os
-import pathlib
 import subprocess
 import sys
 import tempfile
@@ -28,7 +26,6 @@ import time
 from collections import Counter
 from random import Random
 
-import results
 from alone import cover, limits, rows
 from alone.beside import Beside
 from alone.chance import Chance
@@ -39,7 +36,6 @@ from alone.settings import Settings
 
 TOP = os.path.dirname(os.path.dirname(os.path.abspath(__file__)))
 EVENTS_OF_A_NODE = 5000
-SAVE = "--save"
 # Comes after each event, and gives the line after it, so that each event's own lines show.
 MARK, MARKED = "role 0 leader", "fault NoGroup"
 
@@ -111,8 +107,8 @@ def shown(who: str, lines: list[str]) -> list[str]:
     return [f"  {who}: {line[:300]}" for line in lines]
 
 
-def by_chance(events: int, seed: str, program: str) -> dict[str, object]:
-    """Plays that many events, and prints what they gave. Answers how many there were."""
+def by_chance(events: int, seed: str, program: str) -> None:
+    """Plays that many events, and prints what they gave."""
     seen: Counter[str] = Counter()
     given, slots, begun = 0, 0, time.monotonic()
     for first in range(0, events, EVENTS_OF_A_NODE):
@@ -127,7 +123,6 @@ def by_chance(events: int, seed: str, program: str) -> dict[str, object]:
     print(f"seed {seed}: {events} events of {slots} slots give {given} lines, alike; {time.monotonic() - begun:.0f} s")
     if missing := [name for name in cover.wanted() if not seen[name]]:
         raise Wrong(f"these never came: {', '.join(missing)}")
-    return {"events": events, "slots": slots, "lines": given, "seed": seed}
 
 
 def by_rows() -> None:
@@ -160,11 +155,8 @@ def main(words: list[str]) -> None:
     elif words[:1] == ["limits"]:
         by_limits(*(words[1:] or [default]))
     else:
-        given = [it for it in words if it != SAVE]
-        events, seed, program = (given + ["40000", "1", default][len(given):])[:3]
-        figures = by_chance(int(events), str(time.time_ns()) if seed == "clock" else seed, program)
-        if SAVE in words:
-            results.save("alone", figures, proved=results.is_proved(pathlib.Path(program)))
+        events, seed, program = (words + ["40000", "1", default][len(words):])[:3]
+        by_chance(int(events), str(time.time_ns()) if seed == "clock" else seed, program)
 
 
 if __name__ == "__main__":

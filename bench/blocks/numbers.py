@@ -1,4 +1,4 @@
-"""The table of README.md: at most ten numbers, of proved programs only."""
+"""The table of README.md: a few numbers, of proved programs only."""
 from __future__ import annotations
 
 import pathlib
@@ -15,14 +15,12 @@ LINES = "docs/tools/figures"
 
 @dataclass(frozen=True)
 class Number:
-    """A row: what it says first, the result that it is of, the command that measures that, and its value. One that is
-    optional is left out if there is no such result."""
+    """A row: what it says first, the result that it is of, the command that measures that, and its value."""
 
     words: str
     result: str
     command: str
     value: Callable[[Figures], str]
-    is_optional: bool = False
 
 
 def flooded(figures: Figures) -> str:
@@ -42,15 +40,6 @@ def read(figures: Figures) -> str:
                         for it in (pd, md))
 
 
-def read_by_instructions(figures: Figures) -> str:
-    return "; ".join(f"{it['proved']:,} and {it['plain']:,}" for it in figures["rows"])
-
-
-def played(figures: Figures) -> str:
-    most = max(it["lines"] for it in figures["rows"])
-    return f"{mib(max(it['peak_kib'] for it in figures['rows'] if it['lines'] == most))} over {most:,} events"
-
-
 def held(figures: Figures) -> str:
     memory = figures["memory"]
     return f"{mib(memory['small']['rss_kib'])} and {mib(memory['full']['rss_kib'])}"
@@ -66,26 +55,18 @@ def answered(figures: Figures) -> str:
     return f"{short(answer['median_us'])} and {short(answer['p99_us'])} microseconds"
 
 
-def compared(figures: Figures) -> str:
-    return f"{figures['events']:,}, no difference"
-
-
 NUMBERS = (
     Number("Telegrams a second that the daemon takes from a socket to a subscription", "daemon-calls",
            "bench/daemon.py calls", flooded),
     Number("The same for `trdpd serve`, a mode for measurements that never sleeps", "serve", "bench/serve.py", served),
     Number("Time to read process data and a message, compared with plain Rust", "read_heads", "bench/read_heads.py",
            read),
-    Number("Instructions to read them, proved and in plain Rust", "read_heads_instructions",
-           "bench/read_heads.py instructions", read_by_instructions),
-    Number("Peak memory of `trdpd run`", "script_lines", "bench/script_lines.py", played),
     Number("Memory of a daemon with one slot, and with 16 slots that have all objects", "daemon-rest",
            "bench/daemon.py rest", held),
     Number("Load of one processor with 100 publishers that send every 20 ms: the daemon, a loop without a node",
            "daemon-idle", "bench/daemon.py idle", idle),
     Number("Time until a call to a sleeping daemon is answered: median and 99 %", "daemon-rest", "bench/daemon.py rest",
            answered),
-    Number("Random events, compared with a second implementation", "alone", "bench/alone.py", compared, True),
 )
 
 
@@ -102,8 +83,7 @@ def rows(folder: pathlib.Path) -> Iterator[list[str]]:
     for it in NUMBERS:
         result = results.load(it.result, folder)
         if result is None:
-            if not it.is_optional:
-                yield [it.words, NOT_YET, f"`{it.command}`"]
+            yield [it.words, NOT_YET, f"`{it.command}`"]
         elif not result.proved:
             raise results.Fault(f"{it.result}.json is not of a proved program: README.md takes no such result")
         else:
