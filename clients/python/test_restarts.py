@@ -2,6 +2,7 @@
 from __future__ import annotations
 
 import contextlib
+import itertools
 import unittest
 from typing import Any
 
@@ -73,13 +74,21 @@ class Restarts(Case):
         self.assertEqual(len(self.node.made), 4)
 
     def test_a_reset_leaves_nothing_for_check_to_tell(self) -> None:
-        for restore in (False, True):
+        for restore, is_noticed in itertools.product((False, True), repeat=2):
             slot, handles = self.declare(restore=restore)
             self.node.start_anew()
-            with contextlib.suppress(Refused):
-                slot.get(handles["subscription"])
+            if is_noticed:
+                with contextlib.suppress(Refused):
+                    slot.get(handles["subscription"])
+                self.assertIsInstance(slot.next_indication(0), Restarted)
             slot.reset()
             self.assertTrue(slot.check())
+            # Its number was given before the restart too.
+            self.assertLessEqual(slot.subscribe(105).number, 5)
+            self.assertEqual((slot.check(), slot.next_indication(0)), (True, None))
+            # An earlier handle is none of the new object.
+            for handle in handles.values():
+                self.assertRaises(Refused, slot.get, handle)
 
     def test_without_restore_it_is_refused(self) -> None:
         slot, handles = self.declare()

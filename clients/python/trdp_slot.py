@@ -1298,8 +1298,9 @@ class Slot:
         `check` no longer reports an earlier restart."""
         self._make_sure()
         self._reset_slot(self._tries(tries))
-        for handle in [*self._handles.values(), *self._declared]:
-            self._forget(handle)
+        self._declared.clear()
+        # A number that the node gives a second time, after a restart that nobody noticed, ends nothing any more.
+        self._begin_start()
         self._is_whole = True
         self._is_restart_untold = False
 
