@@ -101,6 +101,20 @@ class Made(unittest.TestCase):
         slot = self.serve(act)
         self.assertEqual([slot.get(it).counter for it in (1, 2)], [7, 8])
 
+    def test_marks_of_a_new_client_are_told_apart(self) -> None:
+        def act(taken: socket.socket) -> None:
+            with taken.makefile("r") as lines:
+                self.assertEqual([next(lines), next(lines)], ["get 0\n", "get\n"])
+                for dropped, line in ((b"lost 2\n", "get mark\n"), (b"lost 1\n", "mark\n")):
+                    taken.sendall(dropped)
+                    self.assertEqual(next(lines), line)
+                taken.sendall(b"line fault Unknown\n")
+                self.asks(taken, lines)
+                self.assertEqual([next(lines), next(lines)], ["get 1\n", "get mark\n"])
+                taken.sendall(b"0 value Valid 7 0b\nline fault BadWord\n")
+
+        self.assertEqual(self.serve(act).get(1).counter, 7)
+
     def test_late_answers_are_never_those_of_another_call(self) -> None:
         held: list[bytes] = []
         freed = threading.Event()

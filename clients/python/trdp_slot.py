@@ -1039,7 +1039,7 @@ class Slot:
         self._is_restart_untold = False  # whether the slot has restarted, and `check` hasn't said so
         self._told: collections.deque[Indication] = collections.deque()
         self._callbacks: dict[type, list[Callable[[Any], object]]] = {}
-        self._marks = 0  # how many were sent
+        self._marks = 0  # from which of _MARKS on the next one is chosen
         self._awaited: list[str] = []  # the answers to the latest marks, where they haven't come
         self._mark_end = 0.0  # until when they are waited for
         self._is_nobody = False  # whether the system said of the latest try that no one is at the port
@@ -1571,11 +1571,11 @@ class Slot:
             self._end_link()
 
     def _send_mark(self) -> None:
-        if not self._is_sure and _MARKS[self._marks % len(_MARKS)][1] == _UNKNOWN:
-            # The operator's port would answer this one as a slot's does.
-            self._marks += 1
-        line, answer = _MARKS[self._marks % len(_MARKS)]
-        self._marks += 1
+        """Sends the next mark whose answer isn't awaited already."""
+        free = [it for it in _MARKS[self._marks:] + _MARKS[:self._marks] if it[1] not in self._awaited]
+        # The operator's port would answer one of them as a slot's does: until the port is known it is the last choice.
+        line, answer = min(free, key=lambda it: not self._is_sure and it[1] == _UNKNOWN)
+        self._marks = _MARKS.index((line, answer)) + 1
         self._awaited.append(answer)
         seconds = self.answer_us / 1_000_000 if self._path is None else self._patience()
         self._mark_end = time.monotonic() + seconds
