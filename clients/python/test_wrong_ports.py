@@ -137,6 +137,14 @@ class Questions(made_node.Case):
             slot.publish(1, f"{DEVICE}:{PD}")
         self.assertEqual(self.calls(), ["reset", "publish 1 0 0 0 0 0 127.0.8.7:18224"])
 
+    def test_no_remark_goes_there_for_the_lease(self) -> None:
+        for kind, answer in ((OtherSlot, "7 refused NoHandle"), (OperatorsPort, UNKNOWN)):
+            self.say = lambda line: [answer] if line == QUESTION or answer == UNKNOWN else [MARKS[line]]
+            slot = self.client(number=0, lease_us=60_000)
+            self.assertRaises(kind, slot.get, 1)
+            self.assertIsNone(slot.next_indication(100_000))
+            self.assertNotIn("#", self.port.lines)
+
     def test_unknown_lines_of_a_program_make_it_no_operators_port(self) -> None:
         slot = self.client()
         self.say = lambda line: [ANSWERS.get(line, UNKNOWN)]

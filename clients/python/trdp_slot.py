@@ -1479,6 +1479,8 @@ class Slot:
             self._drop(link)
         self._link = self._known = None
         self._awaited.clear()
+        # No remark goes there for the lease: over UDP it would have that slot's indications come here.
+        self._latest = None
         if self._path is None:
             self._link = self._known = self._connected()
 
