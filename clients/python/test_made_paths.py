@@ -171,6 +171,19 @@ class Made(unittest.TestCase):
         slot = self.serve(lambda taken: taken.sendall(b"x" * 200_000))
         self.assertRaises(WrongAnswer, slot.get, 1)
 
+    def test_check_asks_nothing_though_it_finds_the_end(self) -> None:
+        said: list[str] = []
+
+        def act(taken: socket.socket) -> None:
+            with taken.makefile("r") as lines:
+                for line in lines:
+                    said.append(line)
+                    taken.sendall(f"{ANSWERS[line.rstrip()]}\n".encode())
+
+        slot = self.serve(lambda taken: taken.recv(1000), act)
+        self.assertEqual([slot.check(), slot.check()], [False, True])
+        self.assertEqual(said, ["get mark\n"])
+
     def test_a_call_is_made_once_where_the_connection_ends_behind_it(self) -> None:
         said: list[str] = []
 

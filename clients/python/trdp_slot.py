@@ -1916,7 +1916,8 @@ class Slot:
         except _Ended:
             # The end of the connection is noticed by that.
             pass
-        self._prepare()
+        if not self._is_whole:
+            self._restore()
         return False
 
     # -- inside: objects -------------------------------------------------------
