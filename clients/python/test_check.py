@@ -8,7 +8,8 @@ from collections.abc import Callable
 from unittest import mock
 
 import trdp_slot
-from test_paths import QUOTAS, Clients
+from made_node import SOON
+from test_paths import ANSWER_US, QUOTAS, Clients
 from test_ports import control, node
 from testing import SECOND, Daemon
 from trdp_slot import Handle, Kinds, NoAnswer, Refused, Restarted, Slot
@@ -93,9 +94,12 @@ class Checks(Clients):
         daemon = self.starts_with_slots(2)
         made = [self.listens(number, restore)[0] for number, restore in enumerate((False, True))]
         daemon.end()
+        for slot in made:
+            slot.answer_us = SOON
         said = [[self.checked(slot) for _ in range(2)] for slot in made]
         daemon.start()
         for slot, before in zip(made, said):
+            slot.answer_us = ANSWER_US
             with self.subTest(restore=slot.restore):
                 answers = [*before, *(self.checked(slot) for _ in range(3))]
                 self.assertIn(None, answers[:2])
