@@ -185,9 +185,10 @@ class Pages(unittest.TestCase):
                 self.assertNotEqual(said[-1], "", said)
 
     def request(self) -> None:
-        """A request and its reply in C."""
+        """A request and its reply in C, twice."""
         self.write("lock.c", '#include "trdp_slot.h"\n#include <stdio.h>\n\nstruct side')
-        for step in self.steps("$ gcc -std=c99 -pedantic -Wall -Wextra -Werror -O2 -I clients/c -o lock lock.c"):
+        steps = self.steps("$ gcc -std=c99 -pedantic -Wall -Wextra -Werror -O2 -I clients/c -o lock lock.c")
+        for step in (*steps, steps[-1]):
             self.prints(step)
 
     def paths(self) -> None:
