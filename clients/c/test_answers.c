@@ -209,11 +209,25 @@ static void lease(void)
     CHECK(lost == 0);
 }
 
+/* The port is another slot's. Then no remark goes there for the lease: it would have that slot's
+ * indications come here. */
+static void wrong_port(struct trdp_slot *slot)
+{
+    slot->terms.number = 3;
+    CHECK_ERROR(trdp_slot_pull(slot, 1), TRDP_SLOT_OTHER_SLOT);
+    slot->terms.lease = 60;
+    tell('+', "3 silent 1\n");
+    next(TRDP_SLOT_TIMEOUT, 100);
+    slot->terms.lease = slot->terms.number = 0;
+    CHECK(slot->tried == 0 && had("#"));
+}
+
 /* The question whose port it is goes before the first call, as often as a line may be sent. If it
  * isn't answered the call isn't sent, and the next call asks again. */
 void test_question(void)
 {
     struct trdp_slot *slot = &at_port.slot;
+    wrong_port(slot);
     slot->terms.timeout = 100;
     slot->terms.tries = 2;
     tell('%', "2");

@@ -255,7 +255,7 @@ struct trdp_slot {
     uint32_t marks;               /* how many marks were sent whose answers haven't come */
     int64_t spoke;                /* when the latest line went out */
     int64_t connected;            /* when it was tried to connect, the last time */
-    enum trdp_slot_error absence; /* why there is no connection */
+    enum trdp_slot_error absence; /* why there is no connection, or nothing to say at the port */
     int reason;                   /* of SYSTEM: errno */
 };
 
@@ -1272,12 +1272,18 @@ static inline enum trdp_slot_error trdp_slot_take(struct trdp_slot *slot,
         : trdp_slot_take_datagram(slot, piece);
 }
 
-/* Says `#` where a third of the lease has passed since the latest line. Answers when it is to be
- * said next. What goes wrong with it shows in what comes. */
+/* Whether the port has said last that it is another slot's or the operator's. */
+static inline bool trdp_slot_is_wrong(const struct trdp_slot *slot)
+{
+    return slot->absence == TRDP_SLOT_OTHER_SLOT || slot->absence == TRDP_SLOT_OPERATORS_PORT;
+}
+
+/* Says `#` if a third of the lease has passed since the latest line, but at no wrong port. Returns
+ * when it is to be said next. What goes wrong with it shows in what comes. */
 static inline int64_t trdp_slot_stay(struct trdp_slot *slot)
 {
     int64_t third = slot->terms.lease / 3;
-    if (slot->terms.lease == 0 || slot->socket < 0)
+    if (slot->terms.lease == 0 || slot->socket < 0 || trdp_slot_is_wrong(slot))
         return INT64_MAX;
     if (trdp_slot_now() - slot->spoke >= third) {
         (void)send(slot->socket, "#\n", trdp_slot_has_path(slot) ? 2 : 1, MSG_NOSIGNAL);
@@ -1527,8 +1533,7 @@ static inline enum trdp_slot_error trdp_slot_connect(struct trdp_slot *slot)
  * another application is there. Only a call tries a wrong path again. */
 static inline enum trdp_slot_error trdp_slot_connect_by(struct trdp_slot *slot, int64_t until)
 {
-    bool is_wrong = slot->absence == TRDP_SLOT_OTHER_SLOT
-        || slot->absence == TRDP_SLOT_OPERATORS_PORT;
+    bool is_wrong = trdp_slot_is_wrong(slot);
     while (slot->socket < 0) {
         int64_t now = trdp_slot_now();
         int64_t due = is_wrong ? INT64_MAX : slot->connected + TRDP_SLOT_PAUSE;
@@ -1723,11 +1728,15 @@ static inline enum trdp_slot_error trdp_slot_identify(struct trdp_slot *slot)
     slot->is_known = error == TRDP_SLOT_OK
         || (error >= TRDP_SLOT_REFUSED_NO_HANDLE && error <= TRDP_SLOT_REFUSED_OTHERWISE);
     if (slot->is_known)
-        return TRDP_SLOT_OK;
-    if (error == TRDP_SLOT_FAULT_UNKNOWN)
+        error = TRDP_SLOT_OK;
+    else if (error == TRDP_SLOT_FAULT_UNKNOWN)
         error = TRDP_SLOT_OPERATORS_PORT;
     bool is_wrong = error == TRDP_SLOT_OTHER_SLOT || error == TRDP_SLOT_OPERATORS_PORT;
-    return is_wrong && trdp_slot_has_path(slot) ? trdp_slot_leave(slot, error) : error;
+    if (is_wrong && trdp_slot_has_path(slot))
+        return trdp_slot_leave(slot, error);
+    if (is_wrong || slot->is_known)
+        slot->absence = error;
+    return error;
 }
 
 /* What comes before each call: a connection, if there is none; what waits is taken; the port is
