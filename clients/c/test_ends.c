@@ -329,8 +329,17 @@ static void question_and_mark(void)
     close_and_wait();
 }
 
+/* The longest waits, many times, end later than now. */
+static void longest_wait(void)
+{
+    struct trdp_slot waits = { .path = "x",
+        .terms = { .timeout = UINT32_MAX, .tries = UINT32_MAX } };
+    CHECK(trdp_slot_deadline(&waits) > trdp_slot_now());
+}
+
 void test_ends(void)
 {
+    longest_wait();
     busy();
     ended();
     late_answers();

@@ -1624,8 +1624,10 @@ static inline uint32_t trdp_slot_tries(const struct trdp_slot *slot)
 /* Until when the answer to a line that goes out now is awaited. */
 static inline int64_t trdp_slot_deadline(const struct trdp_slot *slot)
 {
-    uint32_t times = trdp_slot_has_path(slot) ? slot->terms.tries : 1;
-    return trdp_slot_now() + (int64_t)slot->terms.timeout * times;
+    uint64_t wait = slot->terms.timeout, most = INT64_MAX / 2;
+    if (trdp_slot_has_path(slot))
+        wait *= slot->terms.tries;
+    return trdp_slot_now() + (int64_t)(wait < most ? wait : most);
 }
 
 /* Sends the next mark. */
