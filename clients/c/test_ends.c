@@ -329,6 +329,45 @@ static void question_and_mark(void)
     close_and_wait();
 }
 
+/* What an operator's line is answered, late, isn't the answer to the question: at a slot's path,
+ * where another fault is before that, and at the operator's, where nothing else comes. */
+static void says_faults_late(int listener)
+{
+    int connection = begins(listener);
+    hears(connection, "role 1 leader");
+    hears(connection, "get 0");
+    says(connection, "fault NoGroup\nline fault Unknown\n0 refused NoHandle\n");
+    hears(connection, "get");
+    says(connection, "line fault Count\n");
+    hears(connection, "pull 1");
+    says(connection, "0 done\n");
+    close(connection);
+    connection = begins(listener);
+    hears(connection, "role 1 leader");
+    hears(connection, "get 0");
+    says(connection, "ok\nline fault Unknown\n");
+    char more;
+    if (read(connection, &more, 1) != 0)
+        fail("a line is sent to a wrong path");
+}
+
+static void late_faults(void)
+{
+    static const enum trdp_slot_error wanted[] = { TRDP_SLOT_OK, TRDP_SLOT_OPERATORS_PORT };
+    if (!open_at(says_faults_late, 60))
+        return;
+    for (int i = 0; i < 2; i++) {
+        slot->is_known = false; /* as of a new slot */
+        slot->terms.timeout = 60;
+        CHECK_ERROR(trdp_slot_role(slot, 1, true), TRDP_SLOT_TIMEOUT);
+        slot->terms.timeout = i == 0 ? WAIT : 1000;
+        CHECK_ERROR(trdp_slot_pull(slot, 1), wanted[i]);
+        if (i == 0)
+            CHECK(next(WAIT) == TRDP_SLOT_RESTARTED);
+    }
+    close_and_wait();
+}
+
 /* The longest waits, many times, end later than now. */
 static void longest_wait(void)
 {
@@ -348,4 +387,5 @@ void test_ends(void)
     questions();
     wrong_paths();
     question_and_mark();
+    late_faults();
 }

@@ -1710,6 +1710,26 @@ static inline enum trdp_slot_error trdp_slot_hear(struct trdp_slot *slot,
     }
 }
 
+/* Waits for the answer to the question until that moment. If answers to earlier lines may still
+ * come, a fault may be one of these. Then the operator's port is known by it only if nothing else
+ * comes. */
+static inline enum trdp_slot_error trdp_slot_hear_question(struct trdp_slot *slot, int64_t until)
+{
+    bool is_unknown = false;
+    for (;;) {
+        struct trdp_slot_said said;
+        struct trdp_slot_piece piece;
+        enum trdp_slot_error error = trdp_slot_hear(slot, TRDP_SLOT_FORM_VALUE, until, &said,
+            &piece);
+        bool is_fault = slot->is_unsure && error >= TRDP_SLOT_FAULT_TOO_LONG;
+        is_unknown = is_unknown || error == TRDP_SLOT_FAULT_UNKNOWN;
+        if (!is_fault && error != TRDP_SLOT_TIMEOUT)
+            return error;
+        if (!is_fault || trdp_slot_now() >= until)
+            return is_unknown ? TRDP_SLOT_FAULT_UNKNOWN : TRDP_SLOT_TIMEOUT;
+    }
+}
+
 /* Asks whose port this is, until an answer comes; a late one to an earlier question is as good. The
  * operator's port answers as it does to the mark 0, so the next mark is another one. */
 static inline enum trdp_slot_error trdp_slot_identify(struct trdp_slot *slot)
@@ -1719,12 +1739,10 @@ static inline enum trdp_slot_error trdp_slot_identify(struct trdp_slot *slot)
     slot->mark = 0;
     while (error == TRDP_SLOT_TIMEOUT && asked++ < trdp_slot_tries(slot)) {
         char question[] = "get 0";
-        struct trdp_slot_said said;
-        struct trdp_slot_piece piece;
         int64_t until = trdp_slot_deadline(slot);
         error = trdp_slot_send(slot, question, strlen(question), until);
         if (error == TRDP_SLOT_OK)
-            error = trdp_slot_hear(slot, TRDP_SLOT_FORM_VALUE, until, &said, &piece);
+            error = trdp_slot_hear_question(slot, until);
         slot->is_unsure = slot->is_unsure || error == TRDP_SLOT_TIMEOUT;
     }
     slot->is_known = error == TRDP_SLOT_OK
