@@ -59,13 +59,15 @@
  * for one that the way brings twice, which the one within a machine doesn't.
  *
  * WHOSE PORT IT IS. The first call of a slot begins with a question, the line `get 0`. No object
- * has the handle 0, so that line changes nothing, and its refusal begins with the number of the
+ * has the handle 0, so that line changes no object, and its refusal begins with the number of the
  * port's slot. If that isn't `number`, the call returns OTHER_SLOT; at the operator's port it
- * returns OPERATORS_PORT. The call itself isn't sent then, and a connection to such a path is
- * ended, so that it keeps nobody out. The question may be sent `tries` times, which `tried` doesn't
- * count. If no answer comes, the call returns TIMEOUT with `tried` 0, and the next call asks again.
- * So the first call may take twice as long. Once the port has answered, no call asks again, even
- * after a connection has ended. The operator's calls and trdp_slot_next ask nothing.
+ * returns OPERATORS_PORT. The call itself isn't sent then, and the next call asks again. A
+ * connection to such a path is ended, so that it keeps nobody out. Over UDP the indications of the
+ * other slot come here from trdp_slot_open on, until its own application sends its next line. The
+ * question may be sent `tries` times, which `tried` doesn't count. So the first call may take
+ * longer, by `tries` times `timeout`. If no answer comes, the call returns TIMEOUT with `tried` 0,
+ * and the next call asks again. Once the port has said that it is this slot's, no call asks again,
+ * even after a connection has ended. The operator's calls and trdp_slot_next ask nothing.
  *
  * OBJECTS THAT ARE GONE. A daemon that was started again has no objects, and refuses handles that
  * it once gave; so does one whose lease for this slot has run out. TRDP_SLOT_REFUSED_NO_HANDLE of

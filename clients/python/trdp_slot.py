@@ -1033,7 +1033,7 @@ class Slot:
         self._highest = 0  # of the handles that the node gave
         self._start = 0  # how often the slot was seen to restart
         self._is_sure = False  # whether the port has said that it is this slot's
-        self._unknown_due = 0  # until then: how many lines at this socket the operator's port has yet to answer
+        self._unknown_due = 0  # until then: how many lines that were sent at this socket weren't answered as unknown
         self._is_reset_due = reset  # whether the slot has yet to be reset for this client
         self._is_whole = True  # whether all that was declared is there, as far as this client makes it again
         self._is_restart_untold = False  # whether the slot has restarted, and `check` hasn't said so
@@ -1079,8 +1079,8 @@ class Slot:
     def close(self) -> None:
         """Closes the socket or the connection, once the call of another thread is over. Over UDP the objects stay as
         they are, up to the daemon's lease. The end of a connection resets the slot, unless another process keeps it
-        open. All that is called later raises AlreadyClosed, and so does `run` in another thread, and each other wait
-        for an indication. A second `close` does nothing."""
+        open. Each later call raises AlreadyClosed. A thread that is in `run`, or waits for an indication, gets it too.
+        A second `close` does nothing."""
         lock: contextlib.AbstractContextManager[Any] = self._lock
         if os.getpid() != self._process:
             # A thread may have the lock, or wait, that this child of `fork` doesn't have.
@@ -1717,8 +1717,8 @@ class Slot:
         return is_first and line == "busy"
 
     def _is_operators(self, line: str) -> bool:
-        """Whether this line shows that the port is the operator's: it knows none of those that were sent. A slot's port
-        knows the marks that are sent before the question is answered."""
+        """Whether this line shows that the port is the operator's, which knows none of the lines that were sent. A
+        slot's port knows the marks that are sent before the question is answered."""
         if self._is_sure or line != _UNKNOWN:
             return False
         self._unknown_due -= 1
