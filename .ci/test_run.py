@@ -47,16 +47,17 @@ TREE = {
 NONE = ("run: there is no program of these sources: ./run build compiles one without proof in about two minutes, "
         "./run prove proves one in about 30\n")
 UNPROVED = "run: nothing of this program is proved: ./run prove proves it\n"
-CHANGES = {
-    "a definition": "crates/low/specs/Lib.antt", "a body": "crates/low/src/lib.rt",
-    "a proof": "crates/low/proofs/low/Answers.antt", "what the sources may use": "HANDLES",
-    "what the crates stand on": "crates.txt", "the program": "crates/trdpd/out/trdpd",
-    "the record": "crates/trdpd/out/trdpd.record",
-}
-
-
-# What is changed there; a line more elsewhere.
-SPECIAL = {"HANDLES": ("Net", "Wait"), "crates/trdpd/out/trdpd.record": ("digest ", "digest 0")}
+PROGRAM = "crates/trdpd/out/trdpd"
+# What is changed, in which file, and which text there is replaced by which one.
+CHANGES = [
+    ("a definition", "crates/low/specs/Lib.antt", "\n", "\n\n"), ("a body", "crates/low/src/lib.rt", "\n", "\n\n"),
+    ("a proof", "crates/low/proofs/low/Answers.antt", "\n", "\n\n"),
+    ("what the sources may use", "HANDLES", "Net", "Wait"), ("what the crates stand on", "crates.txt", "\n", "\n\n"),
+    ("the program", PROGRAM, "\n", "\n\n"),
+    ("the record's digest", f"{PROGRAM}.record", "digest ", "digest 0"),
+    ("the record's logic", f"{PROGRAM}.record", "logic 0", "logic 1"),
+    ("the record's kind", f"{PROGRAM}.record", "kind proved", "kind unproved"),
+]
 
 
 class Tree(unittest.TestCase):
@@ -98,12 +99,19 @@ class Tree(unittest.TestCase):
             output, errors = ran.communicate(timeout=60)
             return ran.returncode, output, errors
 
+    def record(self, *words: str) -> tuple[int, str]:
+        """The status and the output of package/record.py with these words."""
+        environment = {**os.environ, "RT": str(self.kit / "bin/rt")}
+        ran = subprocess.run([self.top / "package/record.py", *words], env=environment, capture_output=True, text=True)
+        self.assertEqual(ran.stderr, "")
+        return ran.returncode, ran.stdout
+
     def prove(self) -> None:
         """Proves the tree."""
         status, _, errors = self.run_words("prove")
         self.assertEqual((status, errors.splitlines()[-1]), (0, f"run: proved and built: {self.program()}"), errors)
 
-    def program(self, place: str = "crates/trdpd/out/trdpd") -> str:
+    def program(self, place: str = PROGRAM) -> str:
         """The program's path."""
         return str(self.top / place)
 
@@ -137,10 +145,9 @@ class Proved(Tree):
 
     def test_a_changed_tree_is_not_proved(self) -> None:
         self.prove()
-        for what, place in CHANGES.items():
+        for what, place, old, new in CHANGES:
             path = self.top / place
             text = path.read_text()
-            old, new = SPECIAL.get(place, ("\n", "\n\n"))
             self.write(path, text.replace(old, new, 1))
             self.is_none(what)
             self.write(path, text)
@@ -151,6 +158,25 @@ class Proved(Tree):
         more.unlink()
         self.write(self.kit / "KIT-ID", "made-up-kit logic fedcba9876543210\n")
         self.is_none("another logic")
+
+    def test_the_record_has_the_commit_and_whether_files_differ_from_it(self) -> None:
+        def git(*words: str) -> str:
+            line = ["git", "-c", "user.name=a", "-c", "user.email=b", *words]
+            return subprocess.run(line, cwd=self.top, check=True, capture_output=True, text=True).stdout.strip()
+
+        self.prove()
+        self.write(self.top / ".gitignore", "out/\n__pycache__/\n")
+        git("init", "-q")
+        git("add", "-A")
+        git("commit", "-q", "-m", "a tree")
+        commit = git("rev-parse", "HEAD")
+        for place, said in (("note", commit), ("crates/low/specs/More.antt", f"{commit} and changes"),
+                            ("crates/low/src/lib.rt", f"{commit} and changes")):
+            self.write(self.top / place, "-- other text\n")
+            digest = self.record("digest")[1].strip()
+            self.assertEqual(self.record("write", "proved", digest), (0, ""))
+            self.assertIn(f"\ncommit {said}\n", pathlib.Path(f"{self.program()}.record").read_text(), place)
+            git("clean", "-q", "-d", "-f")
 
     def test_the_version_says_what_it_was_made_of(self) -> None:
         self.prove()

@@ -5,9 +5,10 @@
     package/record.py digest                prints the digest of all that a proof reads, as it is now
     package/record.py write KIND DIGEST     notes that the program of that kind was made of the sources of that digest
 
-KIND is `proved` or `unproved`. A record counts only if its digest is that of the tree as it is now, and its sum that of
-the program as it is now. So a changed definition, a changed comment and a replaced program are not called proved, and a
-file that was only touched changes nothing. `write` notes nothing, with status 1, if the tree has another digest by now.
+KIND is `proved` or `unproved`. A record counts only if its digest is the digest of the tree as it is now and of the
+logic that the record itself names, and its sum is the sum of the program as it is now. So a changed definition, a
+changed comment, another logic and a replaced program are not called proved, and a file that was only touched changes
+nothing. `write` notes nothing, with status 1, if the tree has another digest by now.
 
 The digest is the SHA-256 of HANDLES, crates.txt, the files in src/, specs/ and proofs/ of each crate that the program
 stands on, and the kit's logic. Without the kit on PATH the kit that the record names counts.
@@ -54,6 +55,11 @@ class Mismatch(Exception):
     """Why a record isn't written."""
 
 
+def logic_of(kit: str) -> str:
+    """The logic of a kit, from the line that `rt version` prints."""
+    return kit.rpartition(" ")[2]
+
+
 def sum_of(path: pathlib.Path | str) -> str:
     """The SHA-256 of a file."""
     with open(path, "rb") as file:
@@ -89,7 +95,7 @@ def digest_of(top: pathlib.Path, kit: str) -> str:
     total = hashlib.sha256()
     for path in sorted(files_read(top), key=lambda it: it.split("/")):
         total.update(f"{sum_of(f'{top}/{path}')}  {path}\n".encode())
-    total.update(f"{kit.rpartition(' ')[2]}  logic\n".encode())
+    total.update(f"{logic_of(kit)}  logic\n".encode())
     return total.hexdigest()
 
 
@@ -113,7 +119,10 @@ def commit_of(top: pathlib.Path) -> str:
 
     if not (top / ".git").exists() or not (commit := git("rev-parse", "HEAD")):
         return "unknown"
-    return f"{commit} and changes" if git("status", "--porcelain", "--untracked-files=no") else commit
+    # A proof also reads a file that git doesn't know.
+    changes = (git("status", "--porcelain", "--untracked-files=no")
+               or git("ls-files", "--others", "--exclude-standard", "--", "HANDLES", "crates.txt", "crates"))
+    return f"{commit} and changes" if changes else commit
 
 
 def record_place(program: pathlib.Path) -> pathlib.Path:
@@ -139,7 +148,9 @@ def current(top: pathlib.Path) -> tuple[pathlib.Path, Record] | None:
     for kind, place in PLACES.items():
         program = top / place
         record = read_record(program)
-        if record and record.kind == kind and record.digest == digest_of(top, kit or record.kit):
+        if record is None or record.kind != kind or logic_of(kit or record.kit) != logic_of(record.kit):
+            continue
+        if record.digest == digest_of(top, record.kit):
             return program, record
     return None
 
