@@ -99,10 +99,11 @@ class Tree(unittest.TestCase):
             output, errors = ran.communicate(timeout=60)
             return ran.returncode, output, errors
 
-    def record(self, *words: str) -> tuple[int, str]:
+    def record(self, *words: str, path: str = os.environ["PATH"]) -> tuple[int, str]:
         """The status and the output of package/record.py with these words."""
-        environment = {**os.environ, "RT": str(self.kit / "bin/rt")}
-        ran = subprocess.run([self.top / "package/record.py", *words], env=environment, capture_output=True, text=True)
+        environment = {**os.environ, "RT": str(self.kit / "bin/rt"), "PATH": path}
+        line = [sys.executable, str(self.top / "package/record.py"), *words]
+        ran = subprocess.run(line, env=environment, capture_output=True, text=True)
         self.assertEqual(ran.stderr, "")
         return ran.returncode, ran.stdout
 
@@ -135,10 +136,14 @@ class Proved(Tree):
         self.assertEqual(self.run_words("prove")[2], f"run: trdpd is proved and built: {self.program()}\n")
         for path in TREE:
             os.utime(self.top / path, (time.time() + 60, time.time() + 60))
+        # Editors leave such files while a source is open.
+        for name in (".lib.rt.swp", "lib.rt~", "#lib.rt#"):
+            self.write(self.top / "crates/low/src" / name, "")
+        (self.top / "crates/low/src/.#lib.rt").symlink_to("somebody@somewhere")
         self.is_proved()
         self.is_proved(kit=False)
         second = self.scratch / "second"
-        shutil.copytree(self.top, second, copy_function=shutil.copy)
+        shutil.copytree(self.top, second, copy_function=shutil.copy, ignore_dangling_symlinks=True)
         self.is_proved(top=second)
         self.write(self.top / "crates/other/src/lib.rt", "fn another() {}\n")
         self.is_proved()
@@ -177,6 +182,9 @@ class Proved(Tree):
             self.assertEqual(self.record("write", "proved", digest), (0, ""))
             self.assertIn(f"\ncommit {said}\n", pathlib.Path(f"{self.program()}.record").read_text(), place)
             git("clean", "-q", "-d", "-f")
+        # Where git isn't installed a proof counts all the same.
+        self.assertEqual(self.record("write", "proved", digest, path=str(self.scratch)), (0, ""))
+        self.assertIn("\ncommit unknown\n", pathlib.Path(f"{self.program()}.record").read_text())
 
     def test_the_version_says_what_it_was_made_of(self) -> None:
         self.prove()

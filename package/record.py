@@ -10,8 +10,9 @@ logic that the record itself names, and its sum is the sum of the program as it 
 changed comment, another logic and a replaced program are not called proved, and a file that was only touched changes
 nothing. `write` notes nothing, with status 1, if the tree has another digest by now.
 
-The digest is the SHA-256 of HANDLES, crates.txt, the files in src/, specs/ and proofs/ of each crate that the program
-stands on, and the kit's logic. Without the kit on PATH the kit that the record names counts.
+The digest is the SHA-256 of HANDLES, crates.txt, the sources in src/, specs/ and proofs/ of each crate that the program
+stands on, and the kit's logic. What an editor leaves beside them does not count. Without the kit on PATH the kit that
+the record names counts.
 """
 from __future__ import annotations
 
@@ -29,6 +30,8 @@ TOP = pathlib.Path(__file__).resolve().parent.parent
 PROGRAM = "trdpd"
 PLACES = {"proved": f"crates/{PROGRAM}/out/{PROGRAM}", "unproved": f"out/unproved/{PROGRAM}"}
 PARTS = ("src", "specs", "proofs")
+# The kit reads no other files there.
+SOURCES = (".rt", ".antt")
 KEYS = ("kind", "digest", "program", "kit", "commit")
 
 
@@ -87,7 +90,8 @@ def files_read(top: pathlib.Path) -> Iterator[str]:
         for part in PARTS:
             for folder, _, files in os.walk(top / "crates" / name / part):
                 inside = os.path.relpath(folder, top)
-                yield from (f"{inside}/{file}" for file in files)
+                sources = (f"{inside}/{file}" for file in files if file.endswith(SOURCES))
+                yield from (it for it in sources if os.path.isfile(f"{top}/{it}"))
 
 
 def digest_of(top: pathlib.Path, kit: str) -> str:
@@ -114,7 +118,10 @@ def kit_line() -> str | None:
 def commit_of(top: pathlib.Path) -> str:
     """The commit of a tree, with `and changes` if files differ from it."""
     def git(*words: str) -> str:
-        ran = subprocess.run(["git", "-C", str(top), *words], capture_output=True, text=True)
+        try:
+            ran = subprocess.run(["git", "-C", str(top), *words], capture_output=True, text=True)
+        except OSError:
+            return ""
         return ran.stdout.strip() if ran.returncode == 0 else ""
 
     if not (top / ".git").exists() or not (commit := git("rev-parse", "HEAD")):
