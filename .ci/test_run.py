@@ -23,9 +23,10 @@ RT = """#!/bin/sh
 here=$(dirname -- "$0")
 tell() { printf '#!/bin/sh\\necho "trdpd 9.9.9, %s: $*"\\n' "$1"; }
 case $1 in
-    lib)
-        if [ -e "{control}/slow" ]; then touch "{control}/began"; sleep 3; fi
-        test ! -e "{control}/fails" ;;
+    lib | try) if [ -e "{control}/slow" ]; then touch "{control}/began"; sleep 3; fi ;;
+esac
+case $1 in
+    lib) test ! -e "{control}/fails" ;;
     run) mkdir -p out; tell proved > out/trdpd; chmod +x out/trdpd ;;
     try)
         cd "$(mktemp -d)" || exit
@@ -120,6 +121,13 @@ class Tree(unittest.TestCase):
         """The proved program runs."""
         self.assertEqual(self.run_words("check", "x", kit=kit, top=top), (0, "trdpd 9.9.9, proved: check x\n", ""))
 
+    def awaits_the_kit(self) -> None:
+        """Waits until the kit has begun to prove or to compile."""
+        began, end = self.scratch / "began", time.monotonic() + 20
+        while not began.exists():
+            self.assertLess(time.monotonic(), end)
+            time.sleep(0.05)
+
     def is_none(self, why: str) -> None:
         """No program runs."""
         self.assertEqual(self.run_words("daemon", "x"), (4, "", NONE), why)
@@ -198,7 +206,7 @@ class Proved(Tree):
         self.write(self.top / "crates/low/src/lib.rt", "fn other() {}\n")
         self.write(self.scratch / "slow", "")
         with self.begin("prove") as proof:
-            self.awaits_the_proof()
+            self.awaits_the_kit()
             os.kill(proof.pid, signal.SIGINT)
             self.assertEqual(proof.wait(20), 130)
         self.is_none("interrupted")
@@ -207,7 +215,7 @@ class Proved(Tree):
     def test_a_source_that_changes_meanwhile_is_not_proved(self) -> None:
         self.write(self.scratch / "slow", "")
         with self.begin("prove") as proof:
-            self.awaits_the_proof()
+            self.awaits_the_kit()
             self.write(self.top / "crates/low/specs/Lib.antt", "-- another definition\n")
             errors = proof.communicate(timeout=60)[1]
         self.assertEqual((proof.returncode, errors.splitlines()[-1]),
@@ -218,13 +226,6 @@ class Proved(Tree):
         self.write(self.scratch / "fails", "")
         self.assertEqual(self.run_words("prove")[0], 4)
         self.is_none("failed")
-
-    def awaits_the_proof(self) -> None:
-        """Waits until the kit has begun."""
-        began, end = self.scratch / "began", time.monotonic() + 20
-        while not began.exists():
-            self.assertLess(time.monotonic(), end)
-            time.sleep(0.05)
 
 
 class Built(Tree):
@@ -242,6 +243,15 @@ class Built(Tree):
         self.assertEqual(self.run_words("build")[0], 0)
         self.write(self.top / "crates/low/src/lib.rt", "fn other() {}\n")
         self.is_none("stale")
+
+    def test_an_interrupted_one_leaves_nothing(self) -> None:
+        self.write(self.scratch / "slow", "")
+        with self.begin("build") as build:
+            self.awaits_the_kit()
+            os.killpg(build.pid, signal.SIGINT)
+            errors = build.communicate(timeout=60)[1]
+        self.assertEqual(errors.splitlines()[1:], ["run: interrupted"])
+        self.is_none("interrupted")
 
     def test_a_proved_one_comes_first(self) -> None:
         self.assertEqual(self.run_words("build")[0], 0)

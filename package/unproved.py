@@ -120,6 +120,9 @@ def main(words: list[str]) -> int:
     except (NoProgram, OSError, subprocess.CalledProcessError) as why:
         print(f"run: {why}", file=sys.stderr)
         return 1
+    except KeyboardInterrupt:
+        print("run: interrupted", file=sys.stderr)
+        return 130
     return 0
 
 
