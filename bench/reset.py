@@ -11,18 +11,19 @@ does nothing. All is at 127.0.0.1.
 """
 from __future__ import annotations
 
-import os
+import contextlib
 import pathlib
-import signal
 import socket
 import statistics
 import sys
 import time
-from collections.abc import Iterable, Iterator
+from collections.abc import Iterable, Iterator, Sequence
+from functools import partial
 
 import results
 from alone.telegrams import Message, write_md
-from rest import HOST, Node, share, telegrams
+from daemons.nodes import DAEMON, HOST, SERVE, Node, forked
+from daemons.times import share, telegrams
 
 SLOTS, OBJECTS = 16, 256
 KINDS = ("publishers", "subscriptions", "requesters", "listeners", "callers", "repliers")
@@ -47,8 +48,8 @@ def calls(count: int) -> Iterator[str]:
 class FullNode(Node):
     """A node of 16 slots that may have 256 objects of each kind."""
 
-    def __init__(self, program: str) -> None:
-        super().__init__(program, ["serve", "--turns", "4294967295"], SLOTS, QUOTAS)
+    def __init__(self, program: str, words: Sequence[str] = SERVE) -> None:
+        super().__init__(program, words, SLOTS, QUOTAS)
         self.peer = socket.socket(socket.AF_INET, socket.SOCK_DGRAM)
         self.sessions = 2**64
 
@@ -92,18 +93,11 @@ def resets(program: str) -> tuple[float, float]:
     return statistics.median(full), statistics.median(empty)
 
 
-def busy(node: Node) -> int:
-    """Starts a process that fills slot 1 and resets it, without end. Answers its id."""
-    child = os.fork()
-    if child == 0:
-        while True:
-            try:
-                for line in calls(OBJECTS):
-                    node.call(line, 1)
-                node.call("reset", 1)
-            except OSError:
-                os._exit(0)
-    return child
+def fill_and_reset(node: Node) -> None:
+    """Fills slot 1 and resets it, without end."""
+    while True:
+        for line in [*calls(OBJECTS), "reset"]:
+            node.call(line, 1)
 
 
 def lateness(came: list[float]) -> list[float]:
@@ -119,13 +113,9 @@ def lateness(came: list[float]) -> list[float]:
 def late(program: str, seconds: int, beside: bool) -> list[float]:
     """How late the telegrams of slot 0's publisher are, in microseconds, beside a slot that fills and resets itself or
     does nothing."""
-    node = Node(program, ["daemon"], 2, QUOTAS)
-    child = busy(node) if beside else None
-    came, _ = telegrams(node, seconds, CYCLE)
-    if child:
-        os.kill(child, signal.SIGKILL)
-        os.waitpid(child, 0)
-    node.end()
+    with Node(program, DAEMON, 2, QUOTAS) as node:
+        with forked(partial(fill_and_reset, node)) if beside else contextlib.nullcontext():
+            came, _ = telegrams(node, seconds, CYCLE)
     return lateness(came)
 
 
