@@ -74,7 +74,7 @@ def control_lines(figures: Figures) -> str:
 
 
 SCRIPTS = (
-    Script("What does a telegram cost the daemon?", "bench/daemon.py calls", "4", "perf or strace", "daemon-calls"),
+    Script("What does a telegram cost the daemon?", "bench/daemon.py calls", "4", "perf", "daemon-calls"),
     Script("What does sending cost, compared with a loop without a node?", "bench/daemon.py idle", "4", "rustc",
            "daemon-idle"),
     Script("How soon does a daemon answer that has little to do? Its memory", "bench/daemon.py rest", "3", "",

@@ -39,6 +39,16 @@ def patient(text: str) -> str:
     return text
 
 
+class Tests(unittest.TestCase):
+    """The table of tests."""
+
+    def test_each_file_is_there_once(self) -> None:
+        page = (TOP / "CONTRIBUTING.md").read_text()
+        table = page.partition("\n| Tests of |")[2].partition("\n\n")[0]
+        there = {it.name for it in (TOP / "clients/python").glob("test_*.py")} - {"test_clients.py"}
+        self.assertEqual(sorted(re.findall(r"`(test_\w+\.py)`", table)), sorted(there))
+
+
 class Pages(unittest.TestCase):
     """All that the pages say to type, in the order of a reader of all three."""
 
