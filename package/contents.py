@@ -135,7 +135,10 @@ def client_files(number: str) -> Iterator[File]:
                         ("cmake/TrdpSlot/TrdpSlotConfig.cmake", "TrdpSlotConfig.cmake"),
                         ("cmake/TrdpSlot/TrdpSlotConfigVersion.cmake", "TrdpSlotConfigVersion.cmake.in")):
         yield File(f"usr/share/{place}", filled(name, IN_C, VERSION=number, MAJOR=major).encode())
-    for path in (TOP / "clients" / "python").glob("trdp_*.py"):
+    python = TOP / "clients" / "python"
+    for path in [*(python / "trdp_slot").glob("*.py"), python / "trdp_slot" / "py.typed"]:
+        yield File(f"{MODULES}/trdp_slot/{path.name}", path.read_bytes())
+    for path in python.glob("trdp_*.py"):
         # Only a folder can say that a module has types, by its file py.typed. What is imported from it is no command.
         module = path.read_text("utf-8").removeprefix("#!/usr/bin/env python3\n")
         yield File(f"{MODULES}/{path.stem}/__init__.py", module.encode())

@@ -1,5 +1,5 @@
 /* Values of datasets. The script `values.py` draws datasets and values, and gives them to this as
- * lines of numbers; it compares what comes back with what trdp_slot.py makes of the same.
+ * lines of numbers; it compares what comes back with what the client in Python makes of the same.
  *
  *     test_values
  *

@@ -12,13 +12,12 @@ from typing import Any
 from unittest import mock
 
 import test_ends
-import trdp_slot
 from test_edge import is_in
 from test_ends import LEASE, NEW, Display
 from test_paths import ANSWER_US, MARGIN, Clients
 from test_ports import DEVICE, HOME
 from testing import CONTROL, MD, PD, SECOND, Relay, wait_until
-from trdp_slot import Handle, Kinds, NoAnswer, Nobody, Notified, Refused, Restarted, Slot
+from trdp_slot import Handle, Kinds, NoAnswer, Nobody, Notified, Refused, Restarted, Slot, _hearing
 from trdp_telegram import Telegram
 
 FRONT = "127.0.8.9"
@@ -147,7 +146,7 @@ class Anew(Makers):
         daemon = self.starts()
         slot = self.slot(restore=True)
         made = self.makes(slot)
-        send = slot._send
+        send = slot._exchange.send
         # The call that notices it, a reset, five objects and a value.
         for number in range(1 + 1 + 5 + 1):
             left = itertools.count(number, -1)
@@ -160,7 +159,7 @@ class Anew(Makers):
 
             daemon.end()
             daemon.start()
-            with mock.patch.object(slot, "_send", start_and_send):
+            with mock.patch.object(slot._exchange, "send", start_and_send):
                 self.assertFalse(slot.check())
             self.assertEqual(self.operator().slots()[0].objects, WHOLE, number)
             self.assertEqual({type(it) for it in iter(lambda: slot.next_indication(0), None)}, {Restarted})
@@ -203,7 +202,7 @@ class Anew(Makers):
     def test_the_lease_is_kept(self) -> None:
         self.starts("--lease", str(LEASE))
         # By remarks alone: it doesn't look at its objects.
-        with mock.patch.object(trdp_slot, "_LOOK", 100.0):
+        with mock.patch.object(_hearing, "LOOK", 100.0):
             self.assertTrue(any(self.is_kept(number) for number in range(1, TRIES + 1)))
 
     def is_kept(self, number: int) -> bool:
@@ -296,7 +295,7 @@ class Restores(Makers):
         self.starts()
         slot, relay = self.through(answer_us=LONG_US, tries=5)
         # What it asks first is answered, and the mark after that.
-        slot._make_sure()
+        slot._asking.make_sure()
         slot.sync()
         slot.answer_us, asked = 100_000, relay.answers
         os.kill(self.started.process.pid, signal.SIGSTOP)
@@ -306,7 +305,7 @@ class Restores(Makers):
         # Of each try the answer to the reset, and to the mark after it.
         wait_until(lambda: relay.answers == asked + 2 * slot.tries)
         said: list[str] = []
-        send = slot._send
+        send = slot._exchange.send
 
         def note(line: str) -> None:
             said.append(line)
@@ -316,7 +315,7 @@ class Restores(Makers):
                 slot.answer_us = LONG_US
 
         relay.lose(1)  # the answer to the mark after the first reset
-        with mock.patch.object(slot, "_send", note):
+        with mock.patch.object(slot._exchange, "send", note):
             slot.put(slot.publish(100, f"{DEVICE}:{PD}"), b"\x01")
         self.assertEqual([it.split()[0] for it in said if it not in ("mark", "get", "get mark", "#")],
                          ["reset", "reset", "publish", "put"])

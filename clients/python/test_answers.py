@@ -211,7 +211,7 @@ class Indications(Case):
             f"0 asked 2 3 {session} 10.0.0.2:17225 300 - 636172 -", "0 overrun 2",
             "0 replied 4 10.0.0.3:17225 Mp 7 301 0c", "0 replied 4 10.0.0.3:17225 Mq 0 301 -",
             "0 replied 4 10.0.0.3:17225 Me -5 301 -", "0 confirmed 3 9", "0 closed 4 Done")
-        handle = self.slot._declared[0]
+        handle = self.slot._objects.declared[0]
         self.assertIs(told[0].handle, handle)
         self.assertEqual(told[1], Alive(handle))
         listener, replier, caller = told[2].listener, told[3].replier, told[5].caller

@@ -132,7 +132,7 @@ class Beside(Clients):
             self.assertEqual(select.select([number], [], [], 5)[0], [number])
             if payload == b"\x01":
                 # What came during a call is there too, though nothing can be read from its socket.
-                while not slot._told:
+                while not slot._objects.told:
                     slot.sync()
             self.assertEqual(select.select([number], [], [], 0)[0], [number])
             told = slot.next_indication(0)

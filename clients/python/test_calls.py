@@ -11,10 +11,11 @@ from collections.abc import Callable
 from typing import Any
 
 import testing
-import trdp_slot
 from made_node import ADDRESS, ANSWERS, FIRST, MARKS, PATIENCE, Case
 from testing import SEED
-from trdp_slot import ConfigFault, NoAnswer, Nobody, Operator, OtherSlot, Refused, Silent, Slot, SlotError, WrongAnswer
+from trdp_slot import (ConfigFault, DoesNotFit, NoAnswer, Nobody, Operator, OtherSlot, Refused, Silent, Slot, SlotError,
+                       WrongAnswer)
+from trdp_slot._words import uri_of
 
 
 class Calls(Case):
@@ -105,7 +106,7 @@ class Calls(Case):
 
     def test_a_uri_of_any_bytes_comes_and_goes(self) -> None:
         slot = self.client()
-        slot.notify(1, "10.0.0.2:17225", source_uri=trdp_slot._uri_of("ff41"))
+        slot.notify(1, "10.0.0.2:17225", source_uri=uri_of("ff41"))
         self.assertEqual(self.calls()[-1].split()[2], "ff41")
 
 
@@ -285,7 +286,7 @@ class Traps(Case):
         for _ in range(20_000):
             line = " ".join([chance.choice(["0", "0", "0", "7", "x"]), *chance.choices(words, k=chance.randrange(9))])
             try:
-                slot._keep(line)
+                slot._exchange.keep(line)
             except (OtherSlot, WrongAnswer) as told:
                 self.assertEqual(told.line, line)
 
@@ -344,7 +345,7 @@ class Traps(Case):
     def test_one_class_is_the_base_of_all(self) -> None:
         for kind, base in [(Refused, Exception), (NoAnswer, TimeoutError), (Nobody, ConnectionRefusedError),
                            (OtherSlot, Exception),
-                           (WrongAnswer, Exception), (ConfigFault, ValueError), (trdp_slot.DoesNotFit, ValueError)]:
+                           (WrongAnswer, Exception), (ConfigFault, ValueError), (DoesNotFit, ValueError)]:
             self.assertTrue(issubclass(kind, SlotError) and issubclass(kind, base), kind)
 
 

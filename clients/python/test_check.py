@@ -7,12 +7,11 @@ import unittest
 from collections.abc import Callable
 from unittest import mock
 
-import trdp_slot
 from made_node import SOON
 from test_paths import ANSWER_US, QUOTAS, Clients
 from test_ports import control, node
 from testing import SECOND, Daemon
-from trdp_slot import Handle, Kinds, NoAnswer, Refused, Restarted, Slot
+from trdp_slot import Handle, Kinds, NoAnswer, Refused, Restarted, Slot, _hearing
 
 LISTENS, NOTHING = Kinds(0, 1, 0, 1, 0, 0), Kinds(0, 0, 0, 0, 0, 0)
 # In seconds: how soon a client looks here, and for how long one runs, so that it has looked.
@@ -50,7 +49,7 @@ class Checks(Clients):
 
     def setUp(self) -> None:
         super().setUp()
-        self.enterContext(mock.patch.object(trdp_slot, "_LOOK", LOOK))
+        self.enterContext(mock.patch.object(_hearing, "LOOK", LOOK))
 
     def starts_with_slots(self, count: int) -> Daemon:
         """A daemon with that many slots."""

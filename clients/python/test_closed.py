@@ -33,7 +33,7 @@ OPEN = {"close", "look"}
 
 def methods(kind: type) -> set[str]:
     """The names of what a user of a class can call."""
-    return {name for name, it in vars(kind).items() if name[0] != "_" and callable(getattr(kind, name))}
+    return {name for name in dir(kind) if name[0] != "_" and callable(getattr(kind, name))}
 
 
 class Closed(Clients):
@@ -114,7 +114,7 @@ class Closed(Clients):
         threads = [threading.Thread(target=wait, args=(it,), daemon=True) for it in waits]
         for thread in threads:
             thread.start()
-        testing.wait_until(lambda: slot._waiting == len(waits))
+        testing.wait_until(lambda: slot._bell.waiting == len(waits))
         # A process that has a copy of all that is open changes nothing.
         child = testing.fork(signal.pause, range(3, 1000))
         self.addCleanup(os.waitpid, child, 0)

@@ -22,7 +22,7 @@ sys.path.insert(0, str(TOP / "package"))
 from version import SOURCE as VERSION_FILE  # noqa: E402
 from version import program_version  # noqa: E402
 
-MODULES = ["trdp_dump", "trdp_lua", "trdp_send", "trdp_slot", "trdp_telegram", "trdp_words"]
+TOOLS = ["trdp_dump", "trdp_lua", "trdp_send", "trdp_telegram", "trdp_words"]
 MISSING = [it for it in ("pip", "setuptools", "venv", "wheel") if importlib.util.find_spec(it) is None]
 PORT_HOME = "127.0.8.23"
 # The first telegram of comId 100 with the dataset 0a0b.
@@ -104,10 +104,11 @@ class Install(unittest.TestCase):
     def test_the_wheel_has_the_modules_and_says_that_they_have_types(self) -> None:
         with zipfile.ZipFile(self.wheel) as wheel:
             names = {it for it in wheel.namelist() if ".dist-info/" not in it}
-        self.assertEqual(names, {f"{it}/{file}" for it in MODULES for file in ("__init__.py", "py.typed")})
+        client = {f"trdp_slot/{it.name}" for it in (HERE / "trdp_slot").glob("*.py")} | {"trdp_slot/py.typed"}
+        self.assertEqual(names, client | {f"{it}/{file}" for it in TOOLS for file in ("__init__.py", "py.typed")})
 
     def test_the_modules_are_there_by_their_names(self) -> None:
-        run([self.bin("python"), "-W", "error", "-c", f"import {', '.join(MODULES)}"], self.folder)
+        run([self.bin("python"), "-W", "error", "-c", f"import {', '.join(['trdp_slot', *TOOLS])}"], self.folder)
         where = run([self.bin("python"), "-c", "import trdp_slot; print(trdp_slot.__file__)"], self.folder)
         self.assertTrue(pathlib.Path(where).is_relative_to(self.folder / "installed"), where)
 

@@ -40,8 +40,13 @@ class Declared:
         self.items.setdefault(owner, set()).add(name)
 
     def has(self, owner: str, name: str) -> bool:
-        """Whether the owner has that item, by itself or by a trait that it implements."""
-        owners = {owner} | self.traits.get(owner, set())
+        """Whether the owner has that item, by itself, by a trait that it implements, or by a class that it inherits
+        from."""
+        owners: set[str] = set()
+        found = {owner}
+        while found:
+            owners |= found
+            found = {it for one in found for it in self.traits.get(one, set())} - owners
         return any(name in self.items.get(it, set()) for it in owners)
 
 
@@ -118,9 +123,10 @@ def read_definitions(declared: Declared, module: str, text: str) -> None:
 
 
 def read_python(declared: Declared, module: str, text: str) -> None:
-    """Notes the classes, functions, arguments and attributes of a client."""
+    """Notes the classes, functions, arguments and attributes of a client, and which class inherits from which."""
     for node in ast.walk(ast.parse(text)):
         if isinstance(node, ast.ClassDef):
+            declared.traits.setdefault(node.name, set()).update(it.id for it in node.bases if isinstance(it, ast.Name))
             for inner in ast.walk(node):
                 for name in declared_by(inner):
                     declared.add(node.name, name)
@@ -153,6 +159,8 @@ def read_file(declared: Declared, path: pathlib.PurePath) -> None:
         read_definitions(declared, path.stem, text)
     elif path.suffix == ".edit":
         read_edit(declared, path)
+    elif path.match("clients/python/trdp_slot/*.py"):
+        read_python(declared, path.parent.name, text)
     elif path.match("clients/python/trdp_*.py"):
         read_python(declared, path.stem, text)
     elif path.suffix in (".h", ".lua"):

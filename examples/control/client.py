@@ -17,8 +17,8 @@ has the indications come here. At a control socket the connection is the applica
 resets the slot.
 
 The exit status is 0 where something came back, 1 where nothing did or something went wrong, 2 for words that mean
-nothing. Over UDP it uses clients/python/trdp_slot.py, which has a method for each call, and finds the answer to each
-call: docs/CLIENTS.md.
+nothing. Over UDP it uses clients/python/trdp_slot, which has a method for each call, and finds the answer to each call:
+docs/CLIENTS.md.
 """
 from __future__ import annotations
 
