@@ -18,7 +18,7 @@ KINDS = ("edit", "row", "test")
 TAG = re.compile(r"\s*(?:#|//) rule: ([a-z]+\.[a-z]+): (\S(?:.*[^\s.])?)$")
 NAMED = re.compile(r"\s*(?:#|//) rule: [a-z]+\.[a-z]+")
 # What looks like a tag, in the files that have some.
-TAGGED = (("crates/*/must-fail/*.edit", "#"), ("rows/*.rows", "#"), ("clients/python/test_*.py", "#"),
+TAGGED = (("crates/*/must-fail/*.edit", "#"), ("rows/*.rows", "#"), ("clients/python/tests/*/test_*.py", "#"),
           ("crates/*_tests/src/**/*.rt", "//"))
 
 
@@ -89,7 +89,7 @@ def rattle_tests(top: pathlib.Path) -> Iterator[Evidence]:
 
 def python_tests(top: pathlib.Path) -> Iterator[Evidence]:
     """The tests of the clients with tags in them."""
-    for path in sorted(top.glob("clients/python/test_*.py")):
+    for path in sorted(top.glob("clients/python/tests/*/test_*.py")):
         text = path.read_text()
         if "rule: " not in text:
             continue
