@@ -1043,6 +1043,23 @@ static inline void trdp_slot_write_uri(struct trdp_slot_writer *writer, const ch
         trdp_slot_write_bytes(writer, (const uint8_t *)uri, length);
 }
 
+/* Appends the two topology counters. */
+static inline void trdp_slot_write_counters(struct trdp_slot_writer *writer, uint32_t etb,
+    uint32_t op_trn)
+{
+    trdp_slot_write_number(writer, etb);
+    trdp_slot_write_number(writer, op_trn);
+}
+
+/* Appends a filter: from which addresses to which one. */
+static inline void trdp_slot_write_filter(struct trdp_slot_writer *writer, uint32_t low,
+    uint32_t high, uint32_t destination)
+{
+    trdp_slot_write_address(writer, low);
+    trdp_slot_write_address(writer, high);
+    trdp_slot_write_address(writer, destination);
+}
+
 /* Appends a session's identifier. */
 static inline void trdp_slot_write_session(struct trdp_slot_writer *writer,
     const uint8_t session[TRDP_SLOT_SESSION])
@@ -1274,10 +1291,16 @@ static inline enum trdp_slot_error trdp_slot_take(struct trdp_slot *slot,
         : trdp_slot_take_datagram(slot, piece);
 }
 
-/* Whether the port has said last that it is another slot's or the operator's. */
+/* Whether an error says that the port is another slot's or the operator's. */
+static inline bool trdp_slot_is_of_wrong_port(enum trdp_slot_error error)
+{
+    return error == TRDP_SLOT_OTHER_SLOT || error == TRDP_SLOT_OPERATORS_PORT;
+}
+
+/* Whether the port has said so last. */
 static inline bool trdp_slot_is_wrong(const struct trdp_slot *slot)
 {
-    return slot->absence == TRDP_SLOT_OTHER_SLOT || slot->absence == TRDP_SLOT_OPERATORS_PORT;
+    return trdp_slot_is_of_wrong_port(slot->absence);
 }
 
 /* Says `#` if a third of the lease has passed since the latest line, but at no wrong port. Returns
@@ -1308,6 +1331,16 @@ static inline enum trdp_slot_error trdp_slot_await(struct trdp_slot *slot, int64
         if (trdp_slot_poll(slot->socket, POLLIN, due < until ? due : until) != TRDP_SLOT_OK)
             return TRDP_SLOT_SYSTEM;
     }
+}
+
+/* Waits for a text until that moment, takes it, and reads it. */
+static inline enum trdp_slot_error trdp_slot_await_said(struct trdp_slot *slot, int64_t until,
+    struct trdp_slot_said *said, struct trdp_slot_piece *piece)
+{
+    enum trdp_slot_error error = trdp_slot_await(slot, until, piece);
+    if (error == TRDP_SLOT_OK)
+        trdp_slot_read(slot->terms.number, piece->text, piece->length, said);
+    return error;
 }
 
 /* Keeps an indication, or how many were lost, its length before it. Where there is no room it is
@@ -1655,10 +1688,9 @@ static inline enum trdp_slot_error trdp_slot_hear_mark(struct trdp_slot *slot, i
     for (;;) {
         struct trdp_slot_piece piece;
         struct trdp_slot_said said;
-        enum trdp_slot_error error = trdp_slot_await(slot, until, &piece);
+        enum trdp_slot_error error = trdp_slot_await_said(slot, until, &said, &piece);
         if (error != TRDP_SLOT_OK)
             return error;
-        trdp_slot_read(slot->terms.number, piece.text, piece.length, &said);
         if (said.form == TRDP_SLOT_FORM_OTHER_SLOT)
             return TRDP_SLOT_OTHER_SLOT;
         if (said.form == wanted)
@@ -1697,10 +1729,9 @@ static inline enum trdp_slot_error trdp_slot_hear(struct trdp_slot *slot,
     struct trdp_slot_piece *piece)
 {
     for (;;) {
-        enum trdp_slot_error error = trdp_slot_await(slot, until, piece);
+        enum trdp_slot_error error = trdp_slot_await_said(slot, until, said, piece);
         if (error != TRDP_SLOT_OK)
             return error;
-        trdp_slot_read(slot->terms.number, piece->text, piece->length, said);
         if (said->form == wanted)
             return TRDP_SLOT_OK;
         if (said->form == TRDP_SLOT_FORM_OTHER_SLOT)
@@ -1753,7 +1784,7 @@ static inline enum trdp_slot_error trdp_slot_identify(struct trdp_slot *slot)
         error = TRDP_SLOT_OK;
     else if (error == TRDP_SLOT_FAULT_UNKNOWN)
         error = TRDP_SLOT_OPERATORS_PORT;
-    bool is_wrong = error == TRDP_SLOT_OTHER_SLOT || error == TRDP_SLOT_OPERATORS_PORT;
+    bool is_wrong = trdp_slot_is_of_wrong_port(error);
     if (is_wrong && trdp_slot_has_path(slot))
         return trdp_slot_leave(slot, error);
     if (is_wrong || slot->is_known)
@@ -1774,6 +1805,22 @@ static inline enum trdp_slot_error trdp_slot_prepare(struct trdp_slot *slot)
     return error == TRDP_SLOT_OK ? trdp_slot_settle(slot) : error;
 }
 
+/* Sends the line of a call, and counts the try. */
+static inline enum trdp_slot_error trdp_slot_try(struct trdp_slot *slot,
+    const struct trdp_slot_writer *line, int64_t until)
+{
+    enum trdp_slot_error error = trdp_slot_send(slot, line->line, line->length, until);
+    slot->tried += error == TRDP_SLOT_OK;
+    return error;
+}
+
+/* The error of a call after its tries. No one may be there now who took an earlier one. */
+static inline enum trdp_slot_error trdp_slot_after_tries(const struct trdp_slot *slot,
+    enum trdp_slot_error error)
+{
+    return error == TRDP_SLOT_NOBODY && slot->tried > 1 ? TRDP_SLOT_TIMEOUT : error;
+}
+
 /* Makes a call: sends its line until an answer of that form or an error comes. */
 static inline enum trdp_slot_error trdp_slot_ask(struct trdp_slot *slot,
     const struct trdp_slot_writer *line, enum trdp_slot_form wanted,
@@ -1789,15 +1836,13 @@ static inline enum trdp_slot_error trdp_slot_ask(struct trdp_slot *slot,
         return error;
     do {
         int64_t until = trdp_slot_deadline(slot);
-        error = trdp_slot_send(slot, line->line, line->length, until);
+        error = trdp_slot_try(slot, line, until);
         if (error != TRDP_SLOT_OK)
             return error;
-        slot->tried++;
         error = trdp_slot_hear(slot, wanted, until, said, piece);
         slot->is_unsure = slot->is_unsure || error == TRDP_SLOT_TIMEOUT;
     } while (error == TRDP_SLOT_TIMEOUT && slot->tried < trdp_slot_tries(slot));
-    /* No one may be there now who took an earlier try. */
-    return error == TRDP_SLOT_NOBODY && slot->tried > 1 ? TRDP_SLOT_TIMEOUT : error;
+    return trdp_slot_after_tries(slot, error);
 }
 
 /* The same, where the text itself isn't looked at. */
@@ -1840,12 +1885,30 @@ static inline enum trdp_slot_error trdp_slot_do(struct trdp_slot *slot,
     return trdp_slot_call(slot, line, TRDP_SLOT_FORM_DONE, &said);
 }
 
+/* A line that begins with that word and a handle. */
+static inline struct trdp_slot_writer trdp_slot_line_of(struct trdp_slot *slot, const char *word,
+    uint32_t handle)
+{
+    struct trdp_slot_writer writer = trdp_slot_line(slot, word);
+    trdp_slot_write_number(&writer, handle);
+    return writer;
+}
+
+/* The line of a replier's answer, up to its status. */
+static inline struct trdp_slot_writer trdp_slot_answer_line(struct trdp_slot *slot,
+    const char *word, uint32_t handle, uint32_t com_id, int32_t status)
+{
+    struct trdp_slot_writer writer = trdp_slot_line_of(slot, word, handle);
+    trdp_slot_write_number(&writer, com_id);
+    trdp_slot_write_status(&writer, status);
+    return writer;
+}
+
 /* Makes a call of a handle and nothing more. */
 static inline enum trdp_slot_error trdp_slot_do_handle(struct trdp_slot *slot, const char *word,
     uint32_t handle)
 {
-    struct trdp_slot_writer line = trdp_slot_line(slot, word);
-    trdp_slot_write_number(&line, handle);
+    struct trdp_slot_writer line = trdp_slot_line_of(slot, word, handle);
     return trdp_slot_do(slot, &line);
 }
 
@@ -1865,8 +1928,7 @@ static inline enum trdp_slot_error trdp_slot_publish(struct trdp_slot *slot,
     trdp_slot_write_number(&line, terms->dataset);
     trdp_slot_write_number(&line, terms->cycle);
     trdp_slot_write_number(&line, terms->group);
-    trdp_slot_write_number(&line, terms->etb);
-    trdp_slot_write_number(&line, terms->op_trn);
+    trdp_slot_write_counters(&line, terms->etb, terms->op_trn);
     trdp_slot_write_place(&line, terms->to);
     return trdp_slot_make(slot, &line, handle);
 }
@@ -1876,8 +1938,7 @@ static inline enum trdp_slot_error trdp_slot_publish(struct trdp_slot *slot,
 static inline enum trdp_slot_error trdp_slot_put(struct trdp_slot *slot, uint32_t handle,
     const uint8_t *bytes, size_t length)
 {
-    struct trdp_slot_writer line = trdp_slot_line(slot, "put");
-    trdp_slot_write_number(&line, handle);
+    struct trdp_slot_writer line = trdp_slot_line_of(slot, "put", handle);
     trdp_slot_write_bytes(&line, bytes, length);
     return trdp_slot_do(slot, &line);
 }
@@ -1896,11 +1957,8 @@ static inline enum trdp_slot_error trdp_slot_subscribe(struct trdp_slot *slot,
     struct trdp_slot_writer line = trdp_slot_line(slot, "subscribe");
     trdp_slot_write_number(&line, terms->com_id);
     trdp_slot_write_number(&line, terms->dataset);
-    trdp_slot_write_address(&line, terms->low);
-    trdp_slot_write_address(&line, terms->high);
-    trdp_slot_write_address(&line, terms->destination);
-    trdp_slot_write_number(&line, terms->etb);
-    trdp_slot_write_number(&line, terms->op_trn);
+    trdp_slot_write_filter(&line, terms->low, terms->high, terms->destination);
+    trdp_slot_write_counters(&line, terms->etb, terms->op_trn);
     trdp_slot_write_number(&line, terms->time);
     trdp_slot_write_text(&line, terms->keep ? " keep" : " zero");
     return trdp_slot_make(slot, &line, handle);
@@ -1913,8 +1971,7 @@ static inline enum trdp_slot_error trdp_slot_get(struct trdp_slot *slot, uint32_
     struct trdp_slot_value *value, uint8_t *bytes, size_t room)
 {
     struct trdp_slot_said said;
-    struct trdp_slot_writer line = trdp_slot_line(slot, "get");
-    trdp_slot_write_number(&line, handle);
+    struct trdp_slot_writer line = trdp_slot_line_of(slot, "get", handle);
     enum trdp_slot_error error = trdp_slot_call(slot, &line, TRDP_SLOT_FORM_VALUE, &said);
     if (error != TRDP_SLOT_OK)
         return error;
@@ -1938,8 +1995,7 @@ static inline enum trdp_slot_error trdp_slot_openpull(struct trdp_slot *slot,
     trdp_slot_write_number(&line, terms->com_id);
     trdp_slot_write_number(&line, terms->reply_com_id);
     trdp_slot_write_address(&line, terms->reply_address);
-    trdp_slot_write_number(&line, terms->etb);
-    trdp_slot_write_number(&line, terms->op_trn);
+    trdp_slot_write_counters(&line, terms->etb, terms->op_trn);
     trdp_slot_write_place(&line, terms->to);
     return trdp_slot_make(slot, &line, handle);
 }
@@ -1975,12 +2031,9 @@ static inline enum trdp_slot_error trdp_slot_listen(struct trdp_slot *slot,
         trdp_slot_write_text(&line, " any");
     else
         trdp_slot_write_number(&line, terms->com_id);
-    trdp_slot_write_address(&line, terms->low);
-    trdp_slot_write_address(&line, terms->high);
-    trdp_slot_write_address(&line, terms->destination);
+    trdp_slot_write_filter(&line, terms->low, terms->high, terms->destination);
     trdp_slot_write_uri(&line, terms->uri);
-    trdp_slot_write_number(&line, terms->etb);
-    trdp_slot_write_number(&line, terms->op_trn);
+    trdp_slot_write_counters(&line, terms->etb, terms->op_trn);
     return trdp_slot_make(slot, &line, handle);
 }
 
@@ -1998,8 +2051,7 @@ static inline enum trdp_slot_error trdp_slot_notify(struct trdp_slot *slot,
     trdp_slot_write_number(&line, terms->com_id);
     trdp_slot_write_uri(&line, terms->source_uri);
     trdp_slot_write_uri(&line, terms->destination_uri);
-    trdp_slot_write_number(&line, terms->etb);
-    trdp_slot_write_number(&line, terms->op_trn);
+    trdp_slot_write_counters(&line, terms->etb, terms->op_trn);
     trdp_slot_write_place(&line, terms->to);
     trdp_slot_write_bytes(&line, terms->payload, terms->length);
     return trdp_slot_do(slot, &line);
@@ -2019,8 +2071,7 @@ static inline enum trdp_slot_error trdp_slot_request(struct trdp_slot *slot,
     trdp_slot_write_number(&line, terms->time);
     trdp_slot_write_uri(&line, terms->source_uri);
     trdp_slot_write_uri(&line, terms->destination_uri);
-    trdp_slot_write_number(&line, terms->etb);
-    trdp_slot_write_number(&line, terms->op_trn);
+    trdp_slot_write_counters(&line, terms->etb, terms->op_trn);
     trdp_slot_write_place(&line, terms->to);
     trdp_slot_write_bytes(&line, terms->payload, terms->length);
     if (terms->retries > 0)
@@ -2033,10 +2084,8 @@ static inline enum trdp_slot_error trdp_slot_request(struct trdp_slot *slot,
 static inline enum trdp_slot_error trdp_slot_reply(struct trdp_slot *slot, uint32_t handle,
     uint32_t com_id, int32_t status, const uint8_t *payload, size_t length)
 {
-    struct trdp_slot_writer line = trdp_slot_line(slot, "reply");
-    trdp_slot_write_number(&line, handle);
-    trdp_slot_write_number(&line, com_id);
-    trdp_slot_write_status(&line, status);
+    struct trdp_slot_writer line = trdp_slot_answer_line(slot, "reply", handle, com_id,
+        status);
     trdp_slot_write_bytes(&line, payload, length);
     return trdp_slot_do(slot, &line);
 }
@@ -2047,10 +2096,8 @@ static inline enum trdp_slot_error trdp_slot_reply(struct trdp_slot *slot, uint3
 static inline enum trdp_slot_error trdp_slot_query(struct trdp_slot *slot, uint32_t handle,
     uint32_t com_id, int32_t status, uint32_t time, const uint8_t *payload, size_t length)
 {
-    struct trdp_slot_writer line = trdp_slot_line(slot, "query");
-    trdp_slot_write_number(&line, handle);
-    trdp_slot_write_number(&line, com_id);
-    trdp_slot_write_status(&line, status);
+    struct trdp_slot_writer line = trdp_slot_answer_line(slot, "query", handle, com_id,
+        status);
     trdp_slot_write_number(&line, time);
     trdp_slot_write_bytes(&line, payload, length);
     return trdp_slot_do(slot, &line);
@@ -2061,10 +2108,8 @@ static inline enum trdp_slot_error trdp_slot_query(struct trdp_slot *slot, uint3
 static inline enum trdp_slot_error trdp_slot_replyerror(struct trdp_slot *slot, uint32_t handle,
     uint32_t com_id, int32_t status)
 {
-    struct trdp_slot_writer line = trdp_slot_line(slot, "replyerror");
-    trdp_slot_write_number(&line, handle);
-    trdp_slot_write_number(&line, com_id);
-    trdp_slot_write_status(&line, status);
+    struct trdp_slot_writer line = trdp_slot_answer_line(slot, "replyerror", handle, com_id,
+        status);
     return trdp_slot_do(slot, &line);
 }
 
@@ -2074,8 +2119,7 @@ static inline enum trdp_slot_error trdp_slot_replyerror(struct trdp_slot *slot, 
 static inline enum trdp_slot_error trdp_slot_confirm(struct trdp_slot *slot, uint32_t handle,
     struct trdp_slot_place place, int32_t status)
 {
-    struct trdp_slot_writer line = trdp_slot_line(slot, "confirm");
-    trdp_slot_write_number(&line, handle);
+    struct trdp_slot_writer line = trdp_slot_line_of(slot, "confirm", handle);
     trdp_slot_write_place(&line, place);
     trdp_slot_write_status(&line, status);
     return trdp_slot_do(slot, &line);
@@ -2105,10 +2149,9 @@ static inline enum trdp_slot_error trdp_slot_reset(struct trdp_slot *slot)
     bool is_done = false;
     while (error == TRDP_SLOT_OK && !is_done && slot->tried < trdp_slot_tries(slot)) {
         int64_t until = trdp_slot_deadline(slot);
-        error = trdp_slot_send(slot, line.line, line.length, until);
+        error = trdp_slot_try(slot, &line, until);
         if (error != TRDP_SLOT_OK)
             return error;
-        slot->tried++;
         slot->is_unsure = true;
         error = trdp_slot_send_mark(slot, until);
         if (error == TRDP_SLOT_OK)
@@ -2120,7 +2163,7 @@ static inline enum trdp_slot_error trdp_slot_reset(struct trdp_slot *slot)
         }
     }
     return error == TRDP_SLOT_OK && !is_done ? TRDP_SLOT_TIMEOUT
-        : error == TRDP_SLOT_NOBODY && slot->tried > 1 ? TRDP_SLOT_TIMEOUT : error;
+        : trdp_slot_after_tries(slot, error);
 }
 
 /* ---- The operator ----
@@ -2152,8 +2195,7 @@ static inline enum trdp_slot_error trdp_slot_topology(struct trdp_slot *slot, ui
     uint32_t op_trn)
 {
     struct trdp_slot_writer line = trdp_slot_operator_line(slot, "topology");
-    trdp_slot_write_number(&line, etb);
-    trdp_slot_write_number(&line, op_trn);
+    trdp_slot_write_counters(&line, etb, op_trn);
     return trdp_slot_operate(slot, &line);
 }
 
@@ -2220,10 +2262,9 @@ static inline enum trdp_slot_error trdp_slot_hear_usages(struct trdp_slot *slot,
     while (error == TRDP_SLOT_OK) {
         struct trdp_slot_piece piece;
         struct trdp_slot_said said;
-        error = trdp_slot_await(slot, until, &piece);
+        error = trdp_slot_await_said(slot, until, &said, &piece);
         if (error != TRDP_SLOT_OK)
             break;
-        trdp_slot_read(slot->terms.number, piece.text, piece.length, &said);
         if (said.form == TRDP_SLOT_FORM_USAGES) {
             trdp_slot_take_usages(&piece, usages, room, count);
         } else if (!trdp_slot_is_line_fault(&said)) {
@@ -2326,12 +2367,11 @@ static inline enum trdp_slot_error trdp_slot_next(struct trdp_slot *slot, uint32
         struct trdp_slot_said said;
         enum trdp_slot_error error = trdp_slot_connect_by(slot, until);
         if (error == TRDP_SLOT_OK)
-            error = trdp_slot_await(slot, until, &piece);
+            error = trdp_slot_await_said(slot, until, &said, &piece);
         if (error == TRDP_SLOT_TIMEOUT)
             break;
         if (error != TRDP_SLOT_OK)
             return error;
-        trdp_slot_read(slot->terms.number, piece.text, piece.length, &said);
         if (said.form == TRDP_SLOT_FORM_LOST)
             slot->marks = 0; /* the answer to one may be lost */
         if (said.form == TRDP_SLOT_FORM_INDICATION || said.form == TRDP_SLOT_FORM_LOST)
