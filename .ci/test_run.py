@@ -260,6 +260,8 @@ class Built(Tree):
 
 
 if __name__ == "__main__":
+    # A shell that starts this in the background has it ignore an interrupt, and what it starts would too.
+    signal.signal(signal.SIGINT, signal.default_int_handler)
     ran = unittest.main(exit=False, verbosity=0).result
     failed = len(ran.failures) + len(ran.errors)
     print(f"run: {ran.testsRun - failed} passed, {failed} failed")
