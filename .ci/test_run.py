@@ -73,7 +73,7 @@ class Tree(unittest.TestCase):
         for path, text in TREE.items():
             self.write(self.top / path, text)
         (self.top / "package").mkdir()
-        for name in ("run", "package/record.py", "package/unproved.py"):
+        for name in ("run", *(f"package/{it}.py" for it in ("copies", "prove", "record", "unproved"))):
             shutil.copy(TOP / name, self.top / name)
         self.write(self.kit / "KIT-ID", "made-up-kit logic 0123456789abcdef\n")
         self.write(self.kit / "bin/rtlib.py", "")

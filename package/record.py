@@ -69,16 +69,16 @@ def sum_of(path: pathlib.Path | str) -> str:
         return hashlib.file_digest(file, "sha256").hexdigest()
 
 
-def crates_below(top: pathlib.Path) -> set[str]:
-    """The crates that the program stands on, and its own."""
+def crates_below(top: pathlib.Path, crate: str = PROGRAM) -> dict[str, list[str]]:
+    """The crates that a crate stands on, and itself; each with the crates that it names."""
     lines = [line.split("#")[0].partition(":") for line in (top / "crates.txt").read_text().splitlines()]
     below = {name.split()[0]: crates.split() for name, _, crates in lines if name.strip()}
-    found: set[str] = set()
-    left = [PROGRAM]
+    found: dict[str, list[str]] = {}
+    left = [crate]
     while left:
         name = left.pop()
         if name in below and name not in found:
-            found.add(name)
+            found[name] = [it for it in below[name] if it in below]
             left += below[name]
     return found
 
