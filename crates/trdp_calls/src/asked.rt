@@ -11,12 +11,11 @@ use crate::callers::confirm;
 use crate::publishers::put;
 use crate::repliers::{Inquiry, query, reply, reply_error};
 use crate::requesters::pull;
-use crate::setting::Setting;
 use crate::subscriptions::show;
 use trdp_base::Place;
 use trdp_model::{AnyObject, Kind, Refusal};
 use trdp_outbox::{Outbox, PlainAnswer};
-use trdp_store::{Deed, Left};
+use trdp_store::{Deed, Left, Setting};
 
 /// What a call asks of one object.
 #[derive(Clone, Copy)]

@@ -19,7 +19,6 @@ ghost use Rattle.trdp_store.specs.Indexed.{com_of};
 ghost use Rattle.trdp_store.specs.InSession.{own_session};
 
 use crate::opening::{open, opening_refusal};
-use crate::setting::Setting;
 use std::alloc::AllocError;
 use trdp_base::Place;
 use trdp_filter::{Globals, topo_valid};
@@ -27,7 +26,7 @@ use trdp_head::MD_PAYLOAD_MAX;
 use trdp_md::{Caller, CallerTerms, request_head};
 use trdp_model::{AnyObject, Kind, Refusal};
 use trdp_outbox::{Form, Outbox, PlainAnswer};
-use trdp_store::{Counts, Left, Store, has_session};
+use trdp_store::{Counts, Left, Setting, Store, has_session};
 
 /// The shortest timeout of a request or query, in microseconds (profile).
 pub const TIMEOUT_MIN: u32 = 1_000;

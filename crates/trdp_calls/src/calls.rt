@@ -23,7 +23,6 @@ use crate::listeners::listen;
 use crate::notices::notify;
 use crate::publishers::publish;
 use crate::requesters::open_pull;
-use crate::setting::Setting;
 use crate::subscriptions::subscribe;
 use crate::value::{SpellFault, spell};
 use std::alloc::AllocError;
@@ -31,7 +30,7 @@ use trdp_head::PD_PAYLOAD_MAX;
 use trdp_marshal::Item;
 use trdp_model::{Call, Kind, Refusal};
 use trdp_outbox::{Outbox, PlainAnswer, Room};
-use trdp_store::{Sought, Store, object_of};
+use trdp_store::{Setting, Sought, Store, object_of};
 
 /// Which object of process data a call concerns, by its handle, and what it asks of it; None where
 /// it concerns none.

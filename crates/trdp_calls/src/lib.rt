@@ -23,12 +23,10 @@ mod opening;
 mod publishers;
 mod repliers;
 mod requesters;
-mod setting;
 mod shown;
 mod subscriptions;
 mod value;
 
 pub use calls::{put_value, serve};
 pub use look::subscription_at;
-pub use setting::Setting;
 pub use shown::item_shown;

@@ -16,14 +16,13 @@ ghost use Rattle.trdp_datagrams.specs.Noted.{noted_from};
 use crate::addressees::Addressee;
 use crate::messages::{push_heard, push_replied};
 use crate::pull::{answer_place, push_answer};
-use trdp_calls::Setting;
 use trdp_dataset::NodeConfig;
 use trdp_filter::Telegram;
 use trdp_marshal::fits;
 use trdp_model::AnyObject;
 use trdp_outbox::{Form, Outbox};
 use trdp_pd::{Object, Reason, Taken};
-use trdp_store::{Counts, Deed, Left, Store, count_act};
+use trdp_store::{Counts, Deed, Left, Setting, Store, count_act};
 
 /// Whether the payload is a value of the object's dataset; where it has none, any payload is.
 fn fits_object(config: &NodeConfig, telegram: &Telegram<'_>, object: &AnyObject) -> bool

@@ -14,7 +14,7 @@ use crate::start::parts;
 use std::alloc::Global;
 use std::marker::Model;
 use trdp_base::{Place, Topo};
-use trdp_calls::{Setting, put_value, serve};
+use trdp_calls::{put_value, serve};
 use trdp_datagrams::{Addressee, ask_all, note_all, take_all};
 use trdp_dataset::NodeConfig;
 use trdp_filter::{Globals, Groups, Telegram, topo_valid};
@@ -22,7 +22,7 @@ use trdp_head::{MdKind, read_md, read_pd};
 use trdp_marshal::Item;
 use trdp_model::{Call, Event, NodeFault, Protocol};
 use trdp_outbox::Outbox;
-use trdp_store::{Counts, Store};
+use trdp_store::{Counts, Setting, Store};
 
 mod adding;
 mod looks;

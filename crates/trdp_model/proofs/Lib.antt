@@ -1,3 +1,4 @@
+pub mod ActedLemmas
 pub mod TestLemmas
 pub mod ObjectLemmas
 pub mod HandleLemmas

@@ -27,6 +27,7 @@ mod deed;
 mod objects;
 mod schedule;
 mod sessions;
+mod setting;
 mod sought;
 mod store;
 
@@ -36,5 +37,6 @@ pub use counts::Counts;
 pub use deed::{Deed, Left};
 pub use objects::object_of;
 pub use sessions::has_session;
+pub use setting::Setting;
 pub use sought::Sought;
 pub use store::{Store, count_act};

@@ -21,7 +21,8 @@ use Rattle.trdp_model.specs.Acts.{Act, left_at, acted}
 use Rattle.trdp_model.specs.Calls.{at_object, at_entry, told_unless}
 use Rattle.trdp_model.specs.Openings.{refused}
 use Rattle.trdp_model.specs.Configs.{NodeSetup}
-use Rattle.trdp_model.proofs.HandleLemmas.{AllAbove, IsRising}
+use Rattle.trdp_model.proofs.ActedLemmas.{acted-same}
+use Rattle.trdp_model.proofs.HandleLemmas.{IsRising}
 use Rattle.trdp_model.specs.Values.{item_refusal, takes_item, valued}
 use Rattle.trdp_outbox.specs.Outboxes.{OutboxState}
 use Rattle.trdp_store.specs.Acting.{slot_at, Becomes}
@@ -59,35 +60,6 @@ deed_refused s h act table table_then out out_then out_last None lt none found k
     (sym kept)
     (asked_nobody table s h act out out_last lt
     (no_entry (entry_under h (slot_at s table).objects) found) (rw still at records))
-
--- An object that is left as it is.
-
-pub acted-above : (h : ℕ) (left : Option AnyObject) (objects : List Entry)
-    → AllAbove h objects → acted h left objects ≡ objects
-acted-above h left [] above = refl
-acted-above h left (e ∷ es) above =
-    let lt : h < e.handle = above.0 in
-    let other : (e.handle == h) ≡ false = grind (arith, nat_tests) in
-    flat_map-cons (left_at h left) e es
-    ∙ rw other (ap (λ (xs : List Entry). e ∷ xs) (acted-above h left es above.1))
-
-pub acted-same : (h : ℕ) (entry : Entry) (objects : List Entry) → IsRising objects
-    → entry_under h objects ≡ Some entry → acted h (Some entry.object) objects ≡ objects
-acted-same h entry [] rising found = refl
-acted-same h entry (e ∷ es) rising found =
-    flat_map-cons (left_at h (Some entry.object)) e es
-    ∙ either (e.handle == h) refl found (acted-same h entry es rising.1)
-  where
-    either : (b : Bool) → (e.handle == h) ≡ b → entry_under h (e ∷ es) ≡ Some entry
-        → (entry_under h es ≡ Some entry → acted h (Some entry.object) es ≡ es)
-        → left_at h (Some entry.object) e ++ acted h (Some entry.object) es ≡ e ∷ es
-    either true is found rest =
-        let same : e ≡ entry = same_Some e entry (rw is at found) in
-        let of : e.handle ≡ h = grind (arith, nat_tests) in
-        let above : AllAbove h es = subst (λ (n : ℕ). AllAbove n es) of rising.0 in
-        let kept : record e { object = entry.object } ≡ e = rw (← same) refl in
-        rw (is, acted-above h (Some entry.object) es above) (ap (λ (x : Entry). x ∷ es) kept)
-    either false is found rest = rw is (ap (λ (xs : List Entry). e ∷ xs) (rest (rw is at found)))
 
 -- an item that has no bytes is refused
 pub valued_refused :

@@ -29,7 +29,7 @@ use Rattle.trdp_datagrams.specs.Noted.{noted_as, noted_from}
 use Rattle.trdp_datagrams.proofs.NoteLemmas.Noted.{same_room}
 use Rattle.trdp_model.proofs.SweepLemmas.{all_records}
 use Rattle.trdp_datagrams.proofs.NoteLemmas.ByCom.{and_left}
-use Rattle.trdp_calls.proofs.CallLemmas.Acts.{acted-above}
+use Rattle.trdp_model.proofs.ActedLemmas.{acted-above}
 
 -- The object of a handle among others whose handles rise.
 
