@@ -18,12 +18,12 @@ use Rattle.trdp_model.specs.NodeModels.{NodeModel}
 use Rattle.trdp_model.specs.NodeModels.{MayTakeMemory}
 use Rattle.trdp_model.specs.Records.{Content, labelled}
 use Rattle.trdp_model.specs.Slots.{SlotState}
-use Rattle.trdp_script.specs.declared.fault.LineFault.{LineFault}
-use Rattle.trdp_script.specs.EventBytes.{carries_bytes}
-use Rattle.trdp_script.specs.PortLines.{OperatorSays, Orders, Asks}
-use Rattle.trdp_script.specs.PortLines.{control_line_of, operator_line_of}
-use Rattle.trdp_script.proofs.ReadLemmas.Ports.{IsOperators}
-use Rattle.trdp_script.proofs.ReadLemmas.OperatorLines.{SaysOperators, operators_line}
+use Rattle.trdp_text.specs.declared.fault.LineFault.{LineFault}
+use Rattle.trdp_text.specs.EventBytes.{carries_bytes}
+use Rattle.trdp_text.specs.PortLines.{OperatorSays, Orders, Asks}
+use Rattle.trdp_text.specs.PortLines.{control_line_of, operator_line_of}
+use Rattle.trdp_text.proofs.ReadLemmas.Ports.{IsOperators}
+use Rattle.trdp_text.proofs.ReadLemmas.OperatorLines.{SaysOperators, operators_line}
 use Rattle.trdp_model.specs.NodeModels.{node_after}
 use Rattle.trdp_daemon.specs.declared.port.Port.TheVariants.{Operator, Control}
 use Rattle.trdp_daemon.specs.declared.totals.Totals.{Totals}

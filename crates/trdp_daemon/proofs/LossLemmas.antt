@@ -6,11 +6,11 @@ use Rattle.std.proofs.Common.{Result, Ok, Err, refl, ◌∙◌, ap, arith, map, 
 use Rattle.trdp_base.specs.declared.place.Place.{Place}
 use Rattle.trdp_model.specs.Events.{EventModel, CallIs, ResetCall}
 use Rattle.trdp_model.specs.Records.{RecordModel, Content, Answers, Indicates, Sends}
-use Rattle.trdp_script.specs.EventBytes.{carries_bytes}
-use Rattle.trdp_script.specs.declared.fault.LineFault.{LineFault}
-use Rattle.trdp_script.specs.PortLines.{OperatorSays, Orders, Asks}
-use Rattle.trdp_script.specs.PortLines.{control_line_of, operator_line_of}
-use Rattle.trdp_script.specs.RecordText.{text_of_record}
+use Rattle.trdp_text.specs.EventBytes.{carries_bytes}
+use Rattle.trdp_text.specs.declared.fault.LineFault.{LineFault}
+use Rattle.trdp_text.specs.PortLines.{OperatorSays, Orders, Asks}
+use Rattle.trdp_text.specs.PortLines.{control_line_of, operator_line_of}
+use Rattle.trdp_text.specs.RecordText.{text_of_record}
 use Rattle.trdp_daemon.specs.declared.port.Port.{Port}
 use Rattle.trdp_daemon.specs.declared.port.Port.TheVariants.{Pd, Md, PdGroup, MdGroup}
 use Rattle.trdp_daemon.specs.declared.port.Port.TheVariants.{Operator, Control}

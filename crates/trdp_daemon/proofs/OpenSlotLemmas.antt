@@ -12,11 +12,11 @@ use Rattle.trdp_model.specs.Configs.{NodeSetup, setup_of}
 use Rattle.trdp_model.specs.Events.{EventModel, CallIs, ResetCall}
 use Rattle.trdp_model.specs.NodeModels.{NodeModel}
 use Rattle.trdp_model.specs.Slots.{SlotState}
-use Rattle.trdp_script.specs.EventBytes.{carries_bytes}
-use Rattle.trdp_script.specs.PortLines.{OperatorSays, Orders, Asks}
-use Rattle.trdp_script.specs.PortLines.{control_line_of, operator_line_of}
+use Rattle.trdp_text.specs.EventBytes.{carries_bytes}
+use Rattle.trdp_text.specs.PortLines.{OperatorSays, Orders, Asks}
+use Rattle.trdp_text.specs.PortLines.{control_line_of, operator_line_of}
 use Rattle.trdp_model.specs.NodeModels.{node_unless, slots_after}
-use Rattle.trdp_script.specs.declared.fault.LineFault.{LineFault}
+use Rattle.trdp_text.specs.declared.fault.LineFault.{LineFault}
 use Rattle.trdp_daemon.specs.declared.port.Port.{Port}
 use Rattle.trdp_daemon.specs.declared.port.Port.TheVariants.{Pd, Md, PdGroup, MdGroup}
 use Rattle.trdp_daemon.specs.declared.port.Port.TheVariants.{Operator, Control}

@@ -13,7 +13,7 @@ use Rattle.trdp_model.specs.NodeModels.{NodeModel, StepsAsAlone}
 use Rattle.trdp_model.specs.Records.{RecordModel, labelled}
 use Rattle.trdp_model.specs.Slots.{SlotState}
 use Rattle.trdp_outbox.specs.SlotOrder.{slots_own}
-use Rattle.trdp_script.proofs.PlayLemmas.Played.{each_after}
+use Rattle.trdp_outbox.proofs.SlotOrderLemmas.Played.{each_after}
 
 -- a slot that is there
 slot_at : (slots : List SlotState) (s : ℕ) → s < length slots

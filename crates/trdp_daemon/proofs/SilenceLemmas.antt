@@ -9,10 +9,10 @@ use Rattle.std.proofs.lemmas.Bool.{eq-eqb, eqb-true}
 use Rattle.std.proofs.lemmas.List.{get_or-set_other}
 use Rattle.trdp_base.specs.declared.place.Place.{Place}
 use Rattle.trdp_model.specs.Events.{EventModel, CallIs, ResetCall}
-use Rattle.trdp_script.specs.EventBytes.{carries_bytes}
-use Rattle.trdp_script.specs.PortLines.{OperatorSays, Orders, Asks}
-use Rattle.trdp_script.specs.PortLines.{control_line_of, operator_line_of}
-use Rattle.trdp_script.specs.declared.fault.LineFault.{LineFault}
+use Rattle.trdp_text.specs.EventBytes.{carries_bytes}
+use Rattle.trdp_text.specs.PortLines.{OperatorSays, Orders, Asks}
+use Rattle.trdp_text.specs.PortLines.{control_line_of, operator_line_of}
+use Rattle.trdp_text.specs.declared.fault.LineFault.{LineFault}
 use Rattle.trdp_daemon.specs.declared.contact.Contact.{Contact}
 use Rattle.trdp_daemon.specs.declared.port.Port.{Port}
 use Rattle.trdp_daemon.specs.declared.port.Port.TheVariants.{Pd, Md, PdGroup, MdGroup}

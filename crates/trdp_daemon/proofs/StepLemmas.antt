@@ -16,7 +16,7 @@ use Rattle.trdp_model.specs.Alone.{told_opening}
 use Rattle.trdp_model.specs.NodeModels.{NodeModel, StepsAsAlone, node_after, node_unless}
 use Rattle.trdp_outbox.specs.SlotOrder.{by_slot, slots_from, slots_own}
 use Rattle.trdp_outbox.proofs.SlotOrderLemmas.Slots.{from_suc, from_zero}
-use Rattle.trdp_script.proofs.PlayLemmas.Played.{each_after, no_fault, slots_after_event}
+use Rattle.trdp_outbox.proofs.SlotOrderLemmas.Played.{each_after, no_fault, slots_after_event}
 use Rattle.trdp_daemon.specs.Effects.{slots_records, records_unless, event_records}
 
 -- the records of the slots from n on

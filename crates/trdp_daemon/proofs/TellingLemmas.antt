@@ -8,7 +8,7 @@ use Rattle.trdp_base.specs.declared.place.Place.{Place}
 use Rattle.trdp_model.specs.declared.record.Protocol.{Protocol}
 use Rattle.trdp_model.specs.Records.{RecordModel, Content, Answers, Indicates}
 use Rattle.trdp_model.specs.Records.{Sends, AnswerModel, IndicationModel}
-use Rattle.trdp_script.specs.RecordText.{text_of_record}
+use Rattle.trdp_text.specs.RecordText.{text_of_record}
 use Rattle.trdp_daemon.specs.declared.port.Port.TheVariants.{Control}
 use Rattle.trdp_daemon.specs.declared.contact.Contact.{Contact}
 use Rattle.trdp_daemon.specs.declared.link.Link.{Link}

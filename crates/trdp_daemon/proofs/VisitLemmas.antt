@@ -8,15 +8,15 @@ use Rattle.trdp_base.specs.declared.place.Place.{Place}
 use Rattle.trdp_model.specs.Events.{EventModel, DatagramIs, event_model}
 use Rattle.trdp_model.specs.declared.record.Protocol.{Protocol}
 use Rattle.trdp_model.specs.declared.record.Protocol.TheVariants.{Pd as PdData, Md as MdData}
-use Rattle.trdp_script.specs.declared.fault.LineFault.{LineFault}
-use Rattle.trdp_script.specs.declared.fault.LineFault.TheVariants.{OutOfMemory}
+use Rattle.trdp_text.specs.declared.fault.LineFault.{LineFault}
+use Rattle.trdp_text.specs.declared.fault.LineFault.TheVariants.{OutOfMemory}
 use Rattle.trdp_model.specs.declared.event.Event.{Event}
-use Rattle.trdp_script.specs.EventBytes.{carries_bytes}
-use Rattle.trdp_script.specs.Lines.{Reads}
-use Rattle.trdp_script.specs.declared.operator_line.OperatorLine.{OperatorLine}
-use Rattle.trdp_script.specs.declared.operator_line.Question.{Question}
-use Rattle.trdp_script.specs.PortLines.{OperatorSays, Orders, Asks, operator_line_model}
-use Rattle.trdp_script.specs.PortLines.{control_line_of, operator_line_of}
+use Rattle.trdp_text.specs.EventBytes.{carries_bytes}
+use Rattle.trdp_text.specs.Lines.{Reads}
+use Rattle.trdp_text.specs.declared.operator_line.OperatorLine.{OperatorLine}
+use Rattle.trdp_text.specs.declared.operator_line.Question.{Question}
+use Rattle.trdp_text.specs.PortLines.{OperatorSays, Orders, Asks, operator_line_model}
+use Rattle.trdp_text.specs.PortLines.{control_line_of, operator_line_of}
 use Rattle.trdp_daemon.specs.declared.fault.WireFault.{WireFault}
 use Rattle.trdp_daemon.specs.declared.link.Link.{Link}
 use Rattle.trdp_daemon.specs.declared.port.Port.{Port}

@@ -19,7 +19,7 @@ use Rattle.trdp_model.specs.NodeModels.{NodeModel}
 use Rattle.trdp_model.specs.NodeModels.{due_in}
 use Rattle.trdp_model.specs.Records.{Content, Answers, Indicates, Sends, RecordModel, labelled}
 use Rattle.trdp_model.specs.Slots.{SlotState}
-use Rattle.trdp_script.specs.RecordText.{text_of_record}
+use Rattle.trdp_text.specs.RecordText.{text_of_record}
 use Rattle.trdp_model.specs.NodeModels.{node_after}
 use Rattle.trdp_daemon.specs.declared.contact.Contact.{Contact}
 use Rattle.trdp_daemon.specs.declared.port.Port.{Port}

@@ -7,8 +7,8 @@ use Rattle.trdp_model.specs.declared.kind.Kind.TheVariants.{Publisher, Subscript
 use Rattle.trdp_model.specs.declared.kind.Kind.TheVariants.{Listener, Caller, Replier}
 use Rattle.trdp_model.specs.Kinds.{kind_index}
 use Rattle.trdp_model.specs.Slots.{SlotState, empty_slot, kind_count}
-use Rattle.trdp_script.specs.declared.operator_line.Question.{Question}
-use Rattle.trdp_script.specs.declared.operator_line.Question.TheVariants as question
+use Rattle.trdp_text.specs.declared.operator_line.Question.{Question}
+use Rattle.trdp_text.specs.declared.operator_line.Question.TheVariants as question
 use Rattle.trdp_daemon.specs.declared.contact.Contact.{Contact}
 use Rattle.trdp_daemon.specs.declared.totals.Totals.{Totals}
 use Rattle.trdp_daemon.specs.Effects.{ServiceState, contact_of}

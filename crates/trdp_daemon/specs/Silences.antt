@@ -1,7 +1,7 @@
 -- How often the lease runs out for a slot.
 use Rattle.std.specs.Prelude.{◌≡◌, ℕ, ◌+◌, ◌==◌, ◌&&◌, if◌then◌else◌, Bool, false, is_ok}
 use Rattle.std.specs.Prelude.{List, [], ◌∷◌, not}
-use Rattle.trdp_script.specs.PortLines.{control_line_of}
+use Rattle.trdp_text.specs.PortLines.{control_line_of}
 use Rattle.trdp_daemon.specs.declared.port.Port.{Port}
 use Rattle.trdp_daemon.specs.declared.port.Port.TheVariants.{Pd, Md, PdGroup, MdGroup}
 use Rattle.trdp_daemon.specs.declared.port.Port.TheVariants.{Operator, Control}

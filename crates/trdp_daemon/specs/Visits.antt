@@ -7,14 +7,14 @@ use Rattle.trdp_model.specs.declared.record.Protocol.{Protocol}
 use Rattle.trdp_model.specs.declared.record.Protocol.TheVariants.{Pd as PdData, Md as MdData}
 use Rattle.trdp_model.specs.Alone.{opened_by, refused_as}
 use Rattle.trdp_model.specs.Events.{EventModel, DatagramIs}
-use Rattle.trdp_script.specs.EventBytes.{carries_bytes}
-use Rattle.trdp_script.specs.declared.fault.LineFault.{LineFault}
-use Rattle.trdp_script.specs.declared.fault.LineFault.TheVariants.{TooLong, Unknown, Count}
-use Rattle.trdp_script.specs.declared.fault.LineFault.TheVariants.{BadWord, OutOfMemory}
-use Rattle.trdp_script.specs.RecordText.{text_of_fault, name_of_line_fault}
-use Rattle.trdp_script.specs.PortLines.{OperatorSays, Orders, Asks}
-use Rattle.trdp_script.specs.PortLines.{control_line_of, operator_line_of}
-use Rattle.trdp_script.specs.declared.operator_line.Question.{Question}
+use Rattle.trdp_text.specs.EventBytes.{carries_bytes}
+use Rattle.trdp_text.specs.declared.fault.LineFault.{LineFault}
+use Rattle.trdp_text.specs.declared.fault.LineFault.TheVariants.{TooLong, Unknown, Count}
+use Rattle.trdp_text.specs.declared.fault.LineFault.TheVariants.{BadWord, OutOfMemory}
+use Rattle.trdp_text.specs.RecordText.{text_of_fault, name_of_line_fault}
+use Rattle.trdp_text.specs.PortLines.{OperatorSays, Orders, Asks}
+use Rattle.trdp_text.specs.PortLines.{control_line_of, operator_line_of}
+use Rattle.trdp_text.specs.declared.operator_line.Question.{Question}
 use Rattle.trdp_daemon.specs.declared.contact.Contact.{Contact}
 use Rattle.trdp_daemon.specs.declared.port.Port.{Port}
 use Rattle.trdp_daemon.specs.declared.port.Port.TheVariants.{Pd, Md, PdGroup, MdGroup}

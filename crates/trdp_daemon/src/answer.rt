@@ -9,7 +9,7 @@ use crate::port::Port;
 use crate::wire::Wire;
 use trdp_base::Place;
 use trdp_engine::NodeFault;
-use trdp_script::LineFault;
+use trdp_text::LineFault;
 
 /// Answers a datagram that is no line with its fault, from the port that it came to. One for which
 /// an allocation failed is counted, and lost.

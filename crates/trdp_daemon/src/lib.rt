@@ -30,8 +30,9 @@
 //! **Proved**, for each wire, clock and sockets that report their calls: what a turn takes, offers
 //! and counts, and how long a rest the daemon notes as asked for. Proved too: which sockets are
 //! bound and watched, where and in which order; which datagrams a wire hands in, when it fails, and
-//! which refusal and which failed take it keeps; and which numbers [`RunClock`] makes of the system's times. Of
-//! [`RestingWire`]: when and how long it waits or sleeps, and at which ports it asks.
+//! which refusal and which failed take it keeps; and which numbers [`RunClock`] makes of the
+//! system's times. Of [`RestingWire`]: when and how long it waits or sleeps, and at which ports it
+//! asks.
 //!
 //! **Tested**: that a wire is handed the rests that the daemon notes (one line of `Link::rest`),
 //! since a wire reports no rests; and that with ample memory nothing is lost (`trdp_node_tests`).

@@ -14,7 +14,7 @@ use crate::contact::{Contact, contact_of};
 use crate::totals::Totals;
 use trdp_base::{NUMBER_LENGTH, push_number};
 use trdp_engine::{Kind, Node};
-use trdp_script::Question;
+use trdp_text::Question;
 
 /// The most bytes of an answer: those of a datagram in one frame of Ethernet.
 pub(crate) const ANSWER_ROOM: usize = 1_472;

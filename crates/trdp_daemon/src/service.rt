@@ -8,7 +8,7 @@ ghost use Rattle.trdp_model.specs.Events.{CallIs, DatagramIs, ResetCall, event_m
 ghost use Rattle.trdp_model.specs.NodeModels.{MayTakeMemory};
 ghost use Rattle.trdp_engine.specs.NodeStates.{uncounted};
 ghost use Rattle.trdp_model.specs.NodeModels.{node_after};
-ghost use Rattle.trdp_script.specs.PortLines.{control_line_of, operator_line_of};
+ghost use Rattle.trdp_text.specs.PortLines.{control_line_of, operator_line_of};
 ghost use Rattle.trdp_daemon.specs.Effects.{event_effect, is_reset, missing};
 ghost use Rattle.trdp_daemon.specs.Effects.{telling_only};
 ghost use Rattle.trdp_daemon.specs.Resting.{IsIdleTime};
@@ -33,7 +33,7 @@ use std::alloc::{AllocError, Global};
 use trdp_base::Place;
 use trdp_dataset::NodeConfig;
 use trdp_engine::{Call, Event, Node, NodeFault, Outbox, Protocol};
-use trdp_script::{OperatorLine, Question, read_control_event, read_operator};
+use trdp_text::{OperatorLine, Question, read_control_event, read_operator};
 
 /// A node, with the latest lines of its slots and the lists that are used again from event to
 /// event.

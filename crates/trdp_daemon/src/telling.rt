@@ -3,7 +3,7 @@
 ghost use Rattle.std.specs.Prelude.{◌≡◌};
 ghost use Rattle.trdp_model.specs.Records.{record_model};
 ghost use Rattle.trdp_outbox.specs.SlotOrder.{by_slot};
-ghost use Rattle.trdp_script.specs.RecordText.{text_of_record};
+ghost use Rattle.trdp_text.specs.RecordText.{text_of_record};
 ghost use Rattle.trdp_daemon.specs.Effects.{control_place, port_of};
 ghost use Rattle.trdp_daemon.specs.Tellings.{Tells, TellsRecord, TellsText};
 
@@ -13,7 +13,7 @@ use crate::port::Port;
 use crate::wire::Wire;
 use trdp_base::Place;
 use trdp_engine::{Outbox, Protocol, Record, What};
-use trdp_script::print_record;
+use trdp_text::print_record;
 
 /// Offers what the records send, slot by slot, slots rising, each slot's in their order.
 pub(crate) fn tell_records<W: Wire>(

@@ -5,7 +5,7 @@ use std::process::Abort;
 use std::test::Fail;
 use trdp_base::Topo;
 use trdp_engine::{Call, Event};
-use trdp_script::{
+use trdp_text::{
     LINE_MAX, Line, LineFault, OperatorLine, Question, read_control, read_line, read_operator,
 };
 

@@ -15,7 +15,7 @@ use std::test::Fail;
 use trdp_dataset::NodeConfig;
 use trdp_engine::Event;
 use trdp_net::{Network, NetworkFault};
-use trdp_script::{print_record, read_event};
+use trdp_text::{print_record, read_event};
 
 /// The configurations of the nodes. The last one has other ports.
 static NODES: [&str; 4] = [

@@ -6,7 +6,7 @@ use std::process::Abort;
 use std::test::Fail;
 use trdp_dataset::NodeConfig;
 use trdp_engine::{Event, Node, NodeFault, Outbox};
-use trdp_script::{print_record, read_event};
+use trdp_text::{print_record, read_event};
 
 /// Gives an event to a node, as a network gives events to its nodes. Its contract says nothing of
 /// what [`Node::step`] does, so that its callers have less to prove.

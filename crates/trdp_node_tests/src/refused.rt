@@ -18,7 +18,7 @@ use trdp_base::Ip;
 use trdp_dataset::{ConfigFault, NodeConfig, Registry};
 use trdp_engine::{Call, Event, Node, NodeFault, Outbox};
 use trdp_marshal::{Item, MarshalFault, decode, encode};
-use trdp_script::{LineFault, print_record, read_event, read_line};
+use trdp_text::{LineFault, print_record, read_event, read_line};
 
 /// What a call returns, or the same call once more where it reports that an allocation failed.
 fn again<T, E: PartialEq + Debug + Copy, F: Fn() -> Result<T, E>>(

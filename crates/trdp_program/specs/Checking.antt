@@ -3,7 +3,7 @@ use Rattle.std.specs.Prelude.{◌≡◌, ◌≢◌, ◌⊎◌, ℕ, List, Option
 use Rattle.std.specs.Io.KnownBytes.{Keeps}
 use Rattle.trdp_dataset.specs.Configs.{ConfigModel, ReadsToml, config_of}
 use Rattle.trdp_dataset.specs.declared.fault.ConfigFault.{ConfigFault}
-use Rattle.trdp_program.specs.ConfigNames.{text_of_config_fault}
+use Rattle.trdp_text.specs.ConfigNames.{text_of_config_fault}
 use Rattle.trdp_program.specs.Faults.{TellsFault, TellsFaultFirst, TellsText, text_of_serve_fault}
 use Rattle.trdp_program.specs.Programs.{IsConfigFault}
 use Rattle.trdp_program.specs.declared.faults.ServeFault.{ServeFault}

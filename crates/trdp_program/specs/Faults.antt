@@ -2,7 +2,7 @@
 use Rattle.std.specs.Prelude.{ℕ, List, ◌++◌, codes, Option, Result, Ok, Err}
 use Rattle.std.specs.Io.KnownBytes.{Appends, Keeps}
 use Rattle.trdp_base.specs.NumberText.{text_of_number}
-use Rattle.trdp_script.specs.RecordText.{name_of_line_fault}
+use Rattle.trdp_text.specs.RecordText.{name_of_line_fault}
 use Rattle.trdp_script.specs.Writes.{PartlyWrites}
 use Rattle.trdp_script.specs.declared.fault.ScriptFault.{ScriptFault}
 use Rattle.trdp_script.specs.declared.fault.ScriptFault.TheVariants.{Line, Read, Write}

@@ -1,6 +1,5 @@
 pub mod Attending
 pub mod Checking
-pub mod ConfigNames
 pub mod Faults
 pub mod Programs
 pub mod Serving

@@ -5,7 +5,7 @@ use Rattle.trdp_dataset.specs.Configs.{ConfigModel, ReadsToml, config_of}
 use Rattle.trdp_dataset.specs.declared.fault.ConfigFault.{ConfigFault}
 use Rattle.trdp_script.specs.ScriptRuns.{RunsScript}
 use Rattle.trdp_script.specs.declared.fault.ScriptFault.{ScriptFault}
-use Rattle.trdp_program.specs.ConfigNames.{text_of_config_fault}
+use Rattle.trdp_text.specs.ConfigNames.{text_of_config_fault}
 use Rattle.trdp_program.specs.Faults.{TellsEnd, TellsFault, status_of_script}
 
 -- the bytes are a configuration

@@ -4,7 +4,8 @@ ghost use Rattle.std.specs.Prelude.{◌≡◌};
 ghost use Rattle.trdp_program.specs.Faults.{status_of_script};
 
 use std::fmt;
-use trdp_script::{ScriptFault, line_fault_name};
+use trdp_script::ScriptFault;
+use trdp_text::line_fault_name;
 
 /// A script's fault as the program prints it (profile): `line N fault NAME`, or `read fault`,
 /// `write fault` or `memory fault`. Printing it allocates nothing.

@@ -44,7 +44,6 @@
 
 mod attend;
 mod check;
-mod config_names;
 mod daemon;
 mod faults;
 mod options;
@@ -59,10 +58,10 @@ mod wires;
 
 pub use attend::attend_lines;
 pub use check::check_program;
-pub use config_names::ConfigFaultText;
 pub use daemon::report_daemon;
 pub use faults::{ScriptFaultText, ServeFault, script_status};
 pub use options::ServiceOptions;
 pub use program::{CONFIG_STATUS, run_program};
 pub use serve::{serve_program, serve_with};
 pub use stream::{Ready, Stream};
+pub use trdp_text::ConfigFaultText;

@@ -3,17 +3,17 @@
 ghost use Rattle.std.specs.Prelude.{◌≡◌, ◌⊎◌, Ok, IfOk, IfErr, OnOk};
 ghost use Rattle.std.specs.Io.KnownBytes.{Keeps};
 ghost use Rattle.trdp_dataset.specs.Configs.{ReadsToml, config_of};
-ghost use Rattle.trdp_program.specs.ConfigNames.{text_of_config_fault};
+ghost use Rattle.trdp_text.specs.ConfigNames.{text_of_config_fault};
 ghost use Rattle.trdp_program.specs.Faults.{TellsFault};
 ghost use Rattle.trdp_program.specs.Programs.{IsConfig, IsConfigFault, RunsProgram};
 
-use crate::config_names::ConfigFaultText;
 use crate::faults::{ScriptFaultText, script_status};
 use crate::told::tell_fault;
 use std::alloc::Global;
 use std::io::{Read, Write};
 use trdp_dataset::{ConfigFault, NodeConfig};
 use trdp_script::run_script;
+use trdp_text::ConfigFaultText;
 
 /// The exit status where the configuration is rejected (profile).
 pub const CONFIG_STATUS: u8 = 1;

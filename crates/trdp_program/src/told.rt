@@ -2,16 +2,16 @@
 
 ghost use Rattle.std.specs.Prelude.{◌≡◌, ◌++◌, true, codes, IfSome};
 ghost use Rattle.std.specs.Io.KnownBytes.{Appends};
-ghost use Rattle.trdp_program.specs.ConfigNames.{text_of_config_fault};
+ghost use Rattle.trdp_text.specs.ConfigNames.{text_of_config_fault};
 ghost use Rattle.trdp_program.specs.Faults.{TellsFault, TellsFaultFirst, TellsText};
 
-use crate::config_names::ConfigFaultText;
 use std::alloc::{AllocError, Global};
 use std::fmt::{Display, InlineText, Write as _};
 use std::io::Write;
 use trdp_dataset::ConfigFault;
 use trdp_report::fault_place;
 use trdp_script::write_whole;
+use trdp_text::ConfigFaultText;
 
 /// Room for the line of a fault, in bytes: more than the longest.
 const FAULT_ROOM: usize = 128;

@@ -1,3 +1,2 @@
 pub mod ScriptLemmas
-pub mod ReadLemmas
 pub mod PlayLemmas

@@ -1,6 +1,3 @@
--- Lemmas on playing an event, and on printing and writing what it gave.
-pub mod Played
+-- Lemmas on playing an event, and on writing what it gave.
 pub mod Results
-pub mod SomeText
-pub mod TextLengths
 pub mod Written

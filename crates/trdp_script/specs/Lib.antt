@@ -1,14 +1,6 @@
-pub mod EventBytes
-pub mod FormWords
-pub mod Forms
-pub mod Lines
 pub mod Pieces
-pub mod PortLines
-pub mod RecordText
 pub mod ScriptRuns
 pub mod ScriptSteps
 pub mod ScriptText
 pub mod Wants
-pub mod Words
-pub mod WordsLeft
 pub mod Writes

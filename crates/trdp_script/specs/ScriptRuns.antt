@@ -5,7 +5,7 @@ use Rattle.std.specs.Io.KnownBytes.{Appends}
 use Rattle.std.specs.Str.Lines.{lines}
 use Rattle.trdp_dataset.specs.Configs.{ConfigModel}
 use Rattle.trdp_model.specs.NodeModels.{opened_model}
-use Rattle.trdp_script.specs.declared.fault.LineFault.{LineFault}
+use Rattle.trdp_text.specs.declared.fault.LineFault.{LineFault}
 use Rattle.trdp_script.specs.declared.fault.ScriptFault.{ScriptFault}
 use Rattle.trdp_script.specs.declared.fault.ScriptFault.TheVariants.{Line, Read, Write}
 use Rattle.trdp_script.specs.declared.fault.ScriptFault.TheVariants.{OutOfMemory}

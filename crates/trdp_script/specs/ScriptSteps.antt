@@ -6,7 +6,7 @@ use Rattle.trdp_dataset.specs.Configs.{ConfigModel}
 use Rattle.trdp_model.specs.Events.{EventModel}
 use Rattle.trdp_model.specs.NodeModels.{NodeModel, opened_model}
 use Rattle.trdp_engine.specs.NodeStates.{uncounted}
-use Rattle.trdp_script.specs.declared.fault.LineFault.{LineFault}
+use Rattle.trdp_text.specs.declared.fault.LineFault.{LineFault}
 use Rattle.trdp_script.specs.declared.player.Player.{Player}
 use Rattle.trdp_script.specs.declared.script.Script.{Script}
 use Rattle.trdp_script.specs.declared.fault.ScriptFault.{ScriptFault}

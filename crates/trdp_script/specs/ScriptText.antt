@@ -1,43 +1,15 @@
 -- What a script says and gives: the events of its lines, the first line with a fault, and the text
 -- of the records.
-use Rattle.std.specs.Prelude.{ℕ, suc, List, [], ◌∷◌, ◌++◌, length}
+use Rattle.std.specs.Prelude.{ℕ, suc, List, [], ◌∷◌, ◌++◌}
 use Rattle.std.specs.Prelude.{Option, Some, None, Result, Ok, Err}
-use Rattle.std.specs.List.{flat_map}
 use Rattle.std.specs.Str.Lines.{lines}
 use Rattle.trdp_dataset.specs.Configs.{ConfigModel}
-use Rattle.trdp_filter.specs.declared.globals.Globals.{Globals}
-use Rattle.trdp_model.specs.declared.fault.NodeFault.{NodeFault}
-use Rattle.trdp_model.specs.Configs.{NodeSetup, setup_of}
 use Rattle.trdp_model.specs.Events.{EventModel}
-use Rattle.trdp_model.specs.Records.{labelled}
-use Rattle.trdp_model.specs.Slots.{SlotState}
-use Rattle.trdp_model.specs.Alone.{refused_as, records_after}
-use Rattle.trdp_model.specs.Alone.{told_opening}
 use Rattle.trdp_model.specs.NodeModels.{node_after}
 use Rattle.trdp_model.specs.NodeModels.{NodeModel, opened_model}
-use Rattle.trdp_script.specs.declared.fault.LineFault.{LineFault}
-use Rattle.trdp_script.specs.Lines.{line_of}
-use Rattle.trdp_script.specs.RecordText.{text_of_record, text_of_fault}
-
--- the text of the records that these slots get at such an event, slots rising, each slot's in
--- their order
--- rule: out.order
-abbrev pub slots_text : NodeSetup → Globals → EventModel → ℕ → List SlotState → List ℕ
-slots_text setup g event s [] = []
-slots_text setup g event s (slot ∷ slots) =
-    flat_map text_of_record (labelled s (records_after setup s slot g event))
-    ++ slots_text setup g event (suc s) slots
-
--- the text of an event with this fault, or of the records of one with none
-abbrev pub text_unless : Option NodeFault → NodeModel → EventModel → List ℕ
-text_unless (Some fault) node event = text_of_fault fault
-text_unless None node event =
-    slots_text (setup_of node.config) node.globals event 0 node.slots
-    ++ flat_map text_of_record (labelled (length node.slots) (told_opening event))
-
--- the text of an event
-abbrev pub event_text : NodeModel → EventModel → List ℕ
-event_text node event = text_unless (refused_as (length node.slots) node.globals event) node event
+use Rattle.trdp_text.specs.declared.fault.LineFault.{LineFault}
+use Rattle.trdp_text.specs.Lines.{line_of}
+use Rattle.trdp_text.specs.EventText.{event_text}
 
 -- the text of events, one after another
 abbrev pub events_text : NodeModel → List EventModel → List ℕ

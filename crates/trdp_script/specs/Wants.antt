@@ -4,11 +4,12 @@ use Rattle.std.specs.Prelude.{Option, Some, None, Result, Ok, Err}
 use Rattle.trdp_model.specs.Events.{EventModel}
 use Rattle.trdp_model.specs.NodeModels.{NodeModel}
 use Rattle.trdp_model.specs.NodeModels.{MayTakeMemory}
-use Rattle.trdp_script.specs.EventBytes.{carries_bytes}
-use Rattle.trdp_script.specs.Lines.{line_of}
-use Rattle.trdp_script.specs.ScriptText.{event_text, events_of}
+use Rattle.trdp_text.specs.EventBytes.{carries_bytes}
+use Rattle.trdp_text.specs.Lines.{line_of}
+use Rattle.trdp_text.specs.EventText.{event_text}
+use Rattle.trdp_script.specs.ScriptText.{events_of}
 use Rattle.trdp_model.specs.NodeModels.{nodes_after}
-use Rattle.trdp_script.specs.declared.fault.LineFault.{LineFault}
+use Rattle.trdp_text.specs.declared.fault.LineFault.{LineFault}
 
 -- memory may be needed for an event, or for the text of what it gives
 abbrev pub EventMayWant : NodeModel → EventModel → Type 0

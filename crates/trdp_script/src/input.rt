@@ -1,21 +1,10 @@
-//! The lines of an input that comes in pieces.
+//! The bytes of an input that comes in pieces.
 
 ghost use Rattle.std.specs.Prelude.{◌≡◌, ◌<◌, ◌≤◌, length, IfOk, IfErr};
 ghost use Rattle.std.specs.Io.KnownBytes.{ReadConsumes};
-ghost use Rattle.std.specs.Str.Lines.{strip_carriage_return};
 
 use crate::fault::ScriptFault;
 use std::io::Read;
-
-/// A line without the one carriage return at its end.
-pub fn without_return(line: &[u8]) -> &[u8]
-    ensures { result.now ≡ strip_carriage_return line.now }
-{
-    match line {
-        [front @ .., b'\r'] => front,
-        _ => line,
-    }
-}
 
 /// Reads the next bytes to the front of `piece`, and returns their number: 0 at the end of the
 /// input.

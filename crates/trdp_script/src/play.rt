@@ -4,15 +4,15 @@ ghost use Rattle.std.specs.Prelude.{◌≡◌, ◌≢◌, ◌++◌, [], OnOk, On
 ghost use Rattle.std.specs.List.{flat_map};
 ghost use Rattle.trdp_model.specs.Events.{event_model};
 ghost use Rattle.trdp_engine.specs.NodeStates.{uncounted};
-ghost use Rattle.trdp_script.specs.RecordText.{text_of_record};
-ghost use Rattle.trdp_script.specs.ScriptText.{event_text};
+ghost use Rattle.trdp_text.specs.RecordText.{text_of_record};
+ghost use Rattle.trdp_text.specs.EventText.{event_text};
 ghost use Rattle.trdp_model.specs.NodeModels.{node_after};
 ghost use Rattle.trdp_outbox.specs.SlotOrder.{by_slot};
 ghost use Rattle.trdp_script.specs.Wants.{EventMayWant};
 
-use crate::print::{print_fault, print_record};
 use std::alloc::AllocError;
 use trdp_engine::{Event, Node, NodeFault, Outbox};
+use trdp_text::{print_fault, print_record};
 
 /// Lets the node take an event, and appends the text of its records: slot by slot, slots rising,
 /// each slot's in their order; or the line of the event's fault (profile).

@@ -3,17 +3,17 @@
 ghost use Rattle.std.specs.Prelude.{◌≡◌, [], IfOk};
 ghost use Rattle.trdp_engine.specs.NodeStates.{uncounted};
 ghost use Rattle.trdp_model.specs.NodeModels.{opened_model};
-ghost use Rattle.trdp_script.specs.Lines.{line_of};
+ghost use Rattle.trdp_text.specs.Lines.{line_of};
 ghost use Rattle.trdp_script.specs.ScriptSteps.{LineComesTo};
 
-use crate::fault::{LineFault, ScriptFault};
-use crate::line::read_event;
+use crate::fault::ScriptFault;
 use crate::output::{flush_full, output_buffer};
 use crate::play::play;
 use std::alloc::{AllocError, Global};
 use std::io::Write;
 use trdp_dataset::NodeConfig;
 use trdp_engine::{Node, Outbox};
+use trdp_text::{LineFault, read_event};
 
 /// The node of a script, with the lists that are used again from event to event.
 #[derive(Drop)]

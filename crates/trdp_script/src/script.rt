@@ -12,15 +12,14 @@ ghost use Rattle.trdp_script.specs.ScriptSteps.{Starts, Stops};
 ghost use Rattle.trdp_dataset.specs.Configs.{ConfigModel};
 ghost use Rattle.trdp_script.specs.declared.script.TheConstants.{PIECE_ROOM};
 
-use crate::fault::{LineFault, ScriptFault};
-use crate::input::{read_piece, without_return};
-use crate::line::LINE_MAX;
+use crate::fault::ScriptFault;
+use crate::input::read_piece;
 use crate::output::flush;
 use crate::player::Player;
-use crate::split::split_at_byte;
 use std::alloc::{AllocError, Global};
 use std::io::{Read, Write};
 use trdp_dataset::NodeConfig;
+use trdp_text::{LINE_MAX, LineFault, split_at_byte, without_return};
 
 /// The most reads that a script makes of its input (profile).
 pub const READS_MAX: u32 = 4_294_967_295;

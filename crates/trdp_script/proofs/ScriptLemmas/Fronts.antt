@@ -9,10 +9,11 @@ use Rattle.std.proofs.lemmas.List.Elements.{All-head, All-tail}
 use Rattle.std.proofs.lemmas.List.Sums.{sum_by-append, sum_by-cons}
 use Rattle.trdp_model.specs.Events.{EventModel}
 use Rattle.trdp_model.specs.NodeModels.{NodeModel}
-use Rattle.trdp_script.specs.declared.fault.LineFault.{LineFault}
-use Rattle.trdp_script.specs.Lines.{line_of}
+use Rattle.trdp_text.specs.declared.fault.LineFault.{LineFault}
+use Rattle.trdp_text.specs.Lines.{line_of}
 use Rattle.trdp_script.specs.Pieces.{IsBare, ended_lines}
-use Rattle.trdp_script.specs.ScriptText.{after_line, event_text, events_of, events_text}
+use Rattle.trdp_text.specs.EventText.{event_text}
+use Rattle.trdp_script.specs.ScriptText.{after_line, events_of, events_text}
 use Rattle.trdp_script.specs.ScriptText.{fault_from, fault_or}
 use Rattle.trdp_model.specs.NodeModels.{node_after, nodes_after}
 use Rattle.trdp_script.specs.Wants.{IsThereAndMayWant, NextMayWant}

@@ -11,8 +11,8 @@ use Rattle.std.proofs.lemmas.Bool.Decides.{nat_tests, eqb_tells}
 use Rattle.std.proofs.lemmas.List.Elements.{All-push}
 use Rattle.std.proofs.lemmas.List.Splits.{slice_split_none, slice_split_at}
 use Rattle.std.proofs.lemmas.List.Splits.{slice_split-cons_yes, slice_split-cons_no}
-use Rattle.trdp_script.specs.declared.fault.LineFault.TheVariants.{TooLong}
-use Rattle.trdp_script.specs.Lines.{line_among, line_of}
+use Rattle.trdp_text.specs.declared.fault.LineFault.TheVariants.{TooLong}
+use Rattle.trdp_text.specs.Lines.{line_among, line_of}
 use Rattle.trdp_script.specs.Pieces.{IsBare}
 use Rattle.trdp_script.specs.ScriptText.{events_of, fault_from}
 

@@ -9,21 +9,22 @@ use Rattle.std.specs.Str.Lines.{lines, strip_carriage_return}
 use Rattle.std.proofs.lemmas.List.{nil_from_length}
 use Rattle.trdp_model.specs.declared.event.Event.{Event}
 use Rattle.trdp_model.specs.Events.{EventModel, event_model}
-use Rattle.trdp_script.specs.declared.fault.LineFault.{LineFault}
-use Rattle.trdp_script.specs.declared.fault.LineFault.TheVariants.{TooLong, Count}
-use Rattle.trdp_script.specs.declared.fault.LineFault.TheVariants.{OutOfMemory as NoMemory}
+use Rattle.trdp_text.specs.declared.fault.LineFault.{LineFault}
+use Rattle.trdp_text.specs.declared.fault.LineFault.TheVariants.{TooLong, Count}
+use Rattle.trdp_text.specs.declared.fault.LineFault.TheVariants.{OutOfMemory as NoMemory}
 use Rattle.trdp_script.specs.declared.player.Player.{Player}
 use Rattle.trdp_script.specs.declared.script.Script.{Script}
 use Rattle.trdp_script.specs.declared.fault.ScriptFault.{ScriptFault}
 use Rattle.trdp_script.specs.declared.fault.ScriptFault.TheVariants.{Line, Read, Write}
 use Rattle.trdp_script.specs.declared.fault.ScriptFault.TheVariants.{OutOfMemory}
-use Rattle.trdp_script.specs.Forms.{LineForm, forms, event_in}
-use Rattle.trdp_script.specs.Words.{words_of}
-use Rattle.trdp_script.specs.Lines.{Reads, event_or_fault, form_among}
-use Rattle.trdp_script.specs.Lines.{is_skipped, line_among, line_of, may_have}
-use Rattle.trdp_script.specs.Lines.{form_says, say_among, words_say}
+use Rattle.trdp_text.specs.Forms.{LineForm, forms, event_in}
+use Rattle.trdp_text.specs.Words.{words_of}
+use Rattle.trdp_text.specs.Lines.{Reads, event_or_fault, form_among}
+use Rattle.trdp_text.specs.Lines.{is_skipped, line_among, line_of, may_have}
+use Rattle.trdp_text.specs.Lines.{form_says, say_among, words_say}
 use Rattle.trdp_script.specs.Pieces.{IsBare}
-use Rattle.trdp_script.specs.ScriptText.{after_line, event_text, events_of, events_text}
+use Rattle.trdp_text.specs.EventText.{event_text}
+use Rattle.trdp_script.specs.ScriptText.{after_line, events_of, events_text}
 use Rattle.trdp_script.specs.ScriptText.{fault_from, fault_or}
 use Rattle.trdp_model.specs.NodeModels.{node_after, nodes_after}
 use Rattle.trdp_script.specs.ScriptSteps.{node_of, Ends, LineComesTo, Plays}

@@ -5,7 +5,7 @@ use Rattle.std.proofs.Common.{◌≡◌, ◌+◌, ◌≤◌, ℕ, List, [], ◌�
 use Rattle.std.proofs.Common.{sym, ◌∙◌, ap, arith, append_assoc, length-append, subst}
 use Rattle.trdp_script.specs.declared.script.Script.{Script}
 use Rattle.trdp_script.specs.declared.fault.ScriptFault.{ScriptFault}
-use Rattle.trdp_script.specs.Pieces.{IsSplit}
+use Rattle.trdp_text.specs.Splits.{IsSplit}
 use Rattle.trdp_script.specs.ScriptSteps.{IsSound, Plays, Stops}
 use Rattle.trdp_script.proofs.ScriptLemmas.Steps.{plays_both, stops_after, plays_nothing}
 

@@ -1,5 +1,5 @@
 use Rattle.std.proofs.Common.{rules}
-use Rattle.trdp_script.specs.RecordText.{text_of_fault}
+use Rattle.trdp_text.specs.RecordText.{text_of_fault}
 use Rattle.trdp_daemon.specs.Visits.{operator_text}
 use Rattle.trdp_daemon.proofs.answer.operator_text.Goals as goal
 

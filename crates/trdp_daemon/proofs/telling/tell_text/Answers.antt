@@ -1,6 +1,6 @@
 use Rattle.std.proofs.Common.{ap, ◌∙◌, ◌++◌, subst, List, ℕ, []}
 use Rattle.trdp_model.specs.Records.{record_model}
-use Rattle.trdp_script.specs.RecordText.{text_of_record}
+use Rattle.trdp_text.specs.RecordText.{text_of_record}
 use Rattle.trdp_daemon.specs.declared.port.Port.TheVariants.{Control}
 use Rattle.trdp_daemon.specs.Effects.{offering}
 use Rattle.trdp_daemon.specs.Links.{Carries}

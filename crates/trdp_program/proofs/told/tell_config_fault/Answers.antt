@@ -1,4 +1,4 @@
-use Rattle.trdp_program.specs.ConfigNames.{text_of_config_fault}
+use Rattle.trdp_text.specs.ConfigNames.{text_of_config_fault}
 use Rattle.trdp_program.proofs.FaultLineLemmas.{first_whole, first_front}
 use Rattle.trdp_program.proofs.told.tell_config_fault.Goals as goal
 

@@ -1,8 +1,9 @@
 use Rattle.std.proofs.Common.{inr, ◌∙◌, ap, rules, ◌++◌}
 use Rattle.trdp_engine.specs.NodeStates.{uncounted}
-use Rattle.trdp_script.proofs.PlayLemmas.Played.{node_played, text_played, text_refused}
+use Rattle.trdp_outbox.proofs.SlotOrderLemmas.Played.{node_played}
+use Rattle.trdp_text.proofs.TextLemmas.Events.{text_played, text_refused}
 use Rattle.trdp_script.proofs.PlayLemmas.Results.{all_err, all_ok, on_err, on_ok}
-use Rattle.trdp_script.proofs.PlayLemmas.SomeText.{fault_told}
+use Rattle.trdp_text.proofs.TextLemmas.SomeText.{fault_told}
 use Rattle.trdp_script.proofs.play.play.Goals as goal
 
 pub returns-in-Ok-clause-node : goal.returns-in-Ok-clause-node

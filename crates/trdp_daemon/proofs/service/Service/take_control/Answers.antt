@@ -1,6 +1,6 @@
 use Rattle.std.proofs.Common.{Some, None}
 use Rattle.trdp_model.specs.Events.{event_model}
-use Rattle.trdp_script.specs.PortLines.{control_line_of}
+use Rattle.trdp_text.specs.PortLines.{control_line_of}
 use Rattle.trdp_daemon.proofs.VisitLemmas.{reads_ok, control_refused}
 use Rattle.trdp_daemon.proofs.VisitLemmas.{control_skipped, control_took}
 use Rattle.trdp_daemon.proofs.service.Service.take_control.Goals as goal

@@ -1,7 +1,7 @@
 use Rattle.std.proofs.Common.{[], refl, sym, ◌∙◌, ap, rules, Err}
 use Rattle.trdp_engine.specs.NodeStates.{uncounted}
 use Rattle.trdp_model.specs.Events.{event_model}
-use Rattle.trdp_script.proofs.PlayLemmas.Played.{node_played}
+use Rattle.trdp_outbox.proofs.SlotOrderLemmas.Played.{node_played}
 use Rattle.trdp_daemon.proofs.StepLemmas.{node_refused, records_played, records_refused}
 use Rattle.trdp_daemon.proofs.ServiceLemmas.{comes_lost, comes_told, missed}
 use Rattle.trdp_daemon.proofs.ServiceLemmas.{records_told}

@@ -1,7 +1,7 @@
 use Rattle.std.proofs.Common.{Some, None, ◌∙◌, ap}
 use Rattle.trdp_model.specs.Events.{event_model}
-use Rattle.trdp_script.specs.PortLines.{operator_line_of}
-use Rattle.trdp_script.specs.declared.operator_line.OperatorLine.TheVariants as line
+use Rattle.trdp_text.specs.PortLines.{operator_line_of}
+use Rattle.trdp_text.specs.declared.operator_line.OperatorLine.TheVariants as line
 use Rattle.trdp_daemon.specs.Visits.{operator_text}
 use Rattle.trdp_daemon.proofs.ServiceLemmas.{comes_answered, comes_unanswered}
 use Rattle.trdp_daemon.proofs.VisitLemmas.{line_ok, operator_asked, operator_refused}

@@ -2,7 +2,7 @@ use Rattle.std.proofs.Common.{◌<◌, [], length, refl, sym, arith}
 use Rattle.trdp_engine.specs.NodeStates.{uncounted}
 use Rattle.trdp_model.specs.Events.{CallIs, ResetCall}
 use Rattle.trdp_model.specs.declared.fault.NodeFault.TheVariants.{NoSlot}
-use Rattle.trdp_script.proofs.PlayLemmas.Played.{node_played}
+use Rattle.trdp_outbox.proofs.SlotOrderLemmas.Played.{node_played}
 use Rattle.trdp_daemon.proofs.ResetLemmas.{not_there, reset_told}
 use Rattle.trdp_daemon.proofs.ServiceLemmas.{records_told}
 use Rattle.trdp_daemon.proofs.StepLemmas.{node_refused, records_played, records_refused}

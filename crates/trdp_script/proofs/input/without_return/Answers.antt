@@ -1,5 +1,0 @@
-use Rattle.std.proofs.Common.{rules}
-use Rattle.trdp_script.proofs.input.without_return.Goals as goal
-
-pub returns-in-13 : goal.returns-in-13
-returns-in-13 c = search rules

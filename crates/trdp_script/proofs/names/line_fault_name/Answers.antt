@@ -1,5 +1,0 @@
-use Rattle.std.proofs.Common.{rules}
-use Rattle.trdp_script.proofs.names.line_fault_name.Goals as goal
-
-pub returns-in-Count : goal.returns-in-Count
-returns-in-Count c = search rules

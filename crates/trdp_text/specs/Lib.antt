@@ -1,0 +1,11 @@
+pub mod ConfigNames
+pub mod EventBytes
+pub mod EventText
+pub mod FormWords
+pub mod Forms
+pub mod Lines
+pub mod PortLines
+pub mod RecordText
+pub mod Splits
+pub mod Words
+pub mod WordsLeft
