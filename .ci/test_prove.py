@@ -237,7 +237,7 @@ class Order(Tree):
         self.change("package/prove.py", ("LEAST = 30.0, 0.02, 3.0", "LEAST = 0.1, 0.02, 0.0"))
         self.await_events(base="go:on")
         proof = self.begin()
-        self.reads(proof, r"run: 0:\d\d  [01] of 6 crates, now base \(30 of 40 functions\)(, lone.*)?")
+        self.reads(proof, r"run: 0:\d\d  [01] of 6 crates, now base \(30 of 40 functions\)(, lone.*)?, about 1 min more")
         self.go_on()
         self.said(proof, 0)
         self.note("events")
@@ -256,6 +256,12 @@ class Order(Tree):
         self.assertEqual({(it.place, it.jobs) for it in self.spans().values()}, {("tree", 1)})
         self.assertEqual(self.events("begins")[0], "base")
         self.assertEqual({*self.events("begins")[1:3]}, {"left", "right"})
+
+    def test_the_size_of_sources_says_which_chain_is_the_longest(self) -> None:
+        self.note("meminfo", LITTLE)
+        self.write("crates/lone/specs/Large.antt", "-- a line\n" * 1000)
+        self.prove()
+        self.assertEqual(self.events("begins")[0], "lone")
 
     def test_the_times_of_an_earlier_run_say_which_chain_is_the_longest(self) -> None:
         self.note("meminfo", LITTLE)

@@ -12,8 +12,9 @@ other. What `rt` made in a copy is moved into this tree, also after a failure or
 copy, its crate waits until no crate is proved in this tree.
 
 out/proof/NAME.log has what `rt` printed about a crate, out/proof/seconds how long each crate took when it was last
-proved. If every crate is there, these times decide which chain is the longest, and the progress says how long the proof
-may still take. The status is 0 if the program is proved, 4 if it is not, and 130 after an interrupt.
+proved. These times decide which chain is the longest, and how long the proof may still take. A crate that was not
+proved here yet is expected to take a time in proportion to the size of its sources. The status is 0 if the program is
+proved, 4 if it is not, and 130 after an interrupt.
 """
 from __future__ import annotations
 
@@ -43,6 +44,8 @@ MEMORY, PROCESSES = 3_000_000_000, 4
 # Seconds: between two lines about the progress, and between two looks at the processes. A crate that took less than
 # LEAST had been proved before.
 TELLS, LOOKS, LEAST = 30.0, 0.1, 3.0
+# Seconds for each byte of a crate's sources, as long as no crate was proved here.
+GUESS = 0.0008
 
 
 class Failed(Exception):
@@ -114,10 +117,8 @@ class Build:
         self.folder = folder
         self.rt = os.path.abspath(shutil.which(os.environ.get("RT") or "rt") or "rt")
         self.below = record.crates_below(TOP)
+        self.sizes = {it: copies.bytes_in(TOP / "crates" / it, "out", "must-fail") for it in self.below}
         self.noted = noted_seconds()
-        self.has_times = self.below.keys() <= self.noted.keys()
-        self.weights = {it: self.noted[it] if self.has_times else 1.0 for it in self.below}
-        self.chains = chains(self.below, self.weights)
         self.at_once = max(1, min(len(os.sched_getaffinity(0)), free_memory() // MEMORY))
         self.order = graphlib.TopologicalSorter(self.below)
         self.order.prepare()
@@ -126,6 +127,13 @@ class Build:
         self.done: set[str] = set()
         self.without_copy: set[str] = set()
         self.start = time.monotonic()
+
+    def weights(self) -> dict[str, float]:
+        """How many seconds each crate takes: as many as when it was last proved here, else by the size of its
+        sources."""
+        known = self.below.keys() & self.noted.keys()
+        rate = sum(self.noted[it] for it in known) / sum(self.sizes[it] for it in known) if known else GUESS
+        return {it: self.noted.get(it, rate * size) for it, size in self.sizes.items()}
 
     def tree_for(self, name: str) -> pathlib.Path | None:
         """The tree in which a crate can be proved now; None if it has to wait."""
@@ -145,11 +153,11 @@ class Build:
     def begin(self) -> None:
         """Begins each crate that can be proved now, the longest chain first."""
         self.ready += self.order.get_ready()
-        # If two chains are equally long, the crate that more crates name comes first.
-        for name in sorted(self.ready, key=lambda it: (-self.chains[it], -sum(it in on for on in self.below.values()))):
+        longest = chains(self.below, self.weights())
+        for name in sorted(self.ready, key=lambda it: -longest[it]):
             if (tree := self.tree_for(name)) is None:
                 continue
-            ahead = sum(self.chains[it.name] >= self.chains[name] for it in self.running)
+            ahead = sum(longest[it.name] >= longest[name] for it in self.running)
             jobs = max(1, min(PROCESSES, self.at_once // (ahead + 1)))
             words = [self.rt, "run" if name == record.PROGRAM else "lib", "--jobs", str(jobs)]
             path = NOTES / f"{name}.log"
@@ -180,13 +188,13 @@ class Build:
 
     def more(self) -> str:
         """How long it may still take, by the longest chain, or by all crates that are left."""
-        if not self.has_times:
-            return ""
+        weights = self.weights()
         spent = dict.fromkeys(self.below.keys() - self.done, 0.0)
         for it in self.running:
-            spent[it.name] = min(time.monotonic() - it.start, self.weights[it.name])
-        longest = max(self.chains[name] - spent[name] for name in spent)
-        shared = sum(self.weights[name] - spent[name] for name in spent) / self.at_once
+            spent[it.name] = min(time.monotonic() - it.start, weights[it.name])
+        all_chains = chains(self.below, weights)
+        longest = max(all_chains[name] - spent[name] for name in spent)
+        shared = sum(weights[name] - spent[name] for name in spent) / self.at_once
         return f", about {max(1, round(max(longest, shared) / 60))} min more"
 
     def tell(self) -> None:
