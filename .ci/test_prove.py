@@ -233,6 +233,12 @@ class Order(Tree):
         self.prove()
         self.assertEqual({self.spans()[it].place for it in ("left", "right")}, {"tree", "copy"})
 
+    def test_libraries_take_no_room_on_the_same_disk(self) -> None:
+        self.write("crates/base/out/large", "-" * 2_000_000)
+        self.await_events(left="begins:right", right="begins:left")
+        self.prove()
+        self.assertEqual({self.spans()[it].place for it in ("left", "right")}, {"tree", "copy"})
+
     def test_what_is_kept_is_not_made_again(self) -> None:
         self.change("package/prove.py", ("LEAST = 30.0, 0.02, 3.0", "LEAST = 0.1, 0.02, 0.0"))
         self.await_events(base="go:on")

@@ -1,6 +1,9 @@
 """Copies of the tree. In each copy one crate is proved beside other crates, because two `rt` in one tree wait for each
 other. A copy has all sources, because `rt` asks for those of every crate, the libraries below its crate, and what an
-earlier run made of the crate itself."""
+earlier run made of the crate itself.
+
+All libraries together take more than 2 GB. A copy on this tree's disk has hard links to them: `rt` only reads a library
+that is up to date, and removes a file before it writes another one in its place."""
 from __future__ import annotations
 
 import contextlib
@@ -9,6 +12,7 @@ import pathlib
 import shutil
 import tempfile
 import time
+from collections.abc import Callable
 
 import record
 
@@ -18,14 +22,16 @@ DISK = 2_000_000_000
 
 
 def bytes_in(folder: pathlib.Path, *but: str) -> int:
-    """The bytes of the files in a folder, without the folders that have such a name."""
+    """The bytes that the files in a folder take of the disk, without the folders that have such a name. A file that has
+    another link takes none."""
     total = 0
     for inside, folders, files in os.walk(folder):
         folders[:] = [it for it in folders if it not in but]
         for file in files:
             # A proof that runs there removes files meanwhile.
             with contextlib.suppress(OSError):
-                total += os.path.getsize(f"{inside}/{file}")
+                found = os.stat(f"{inside}/{file}")
+                total += found.st_size if found.st_nlink == 1 else 0
     return total
 
 
@@ -47,15 +53,17 @@ def make(folder: pathlib.Path, name: str) -> pathlib.Path:
     """Makes a copy to prove a crate in, in the folder of all copies. Raises OSError if there is no room for it."""
     copy = folder / name
     libraries = record.crates_below(TOP, name).keys() - {name}
-    parts: list[tuple[str, list[str]]] = [("crates", ["out", "must-fail"]), (f"crates/{name}/out", [])]
-    parts += [(f"crates/{it}/out", ["incremental"]) for it in libraries]
+    is_one_disk = os.stat(folder).st_dev == os.stat(TOP).st_dev
+    parts: list[tuple[str, list[str], Callable[[str, str], object]]] = [
+        ("crates", ["out", "must-fail"], shutil.copy2), (f"crates/{name}/out", [], shutil.copy2)]
+    parts += [(f"crates/{it}/out", ["incremental"], os.link if is_one_disk else shutil.copy2) for it in libraries]
     room = min(DISK - bytes_in(folder), shutil.disk_usage(folder).free - DISK)
-    if sum(bytes_in(TOP / part, *but) for part, but in parts) > room:
+    if sum(bytes_in(TOP / part, *but) for part, but, place in parts if place is not os.link) > room:
         raise OSError(f"all copies of the tree take at most {DISK / 1e9:g} GB of the disk, and leave as much free")
     try:
-        for part, but in parts:
+        for part, but, place in parts:
             if (TOP / part).is_dir():
-                shutil.copytree(TOP / part, copy / part, ignore=shutil.ignore_patterns(*but))
+                shutil.copytree(TOP / part, copy / part, ignore=shutil.ignore_patterns(*but), copy_function=place)
         for file in ("crates.txt", "HANDLES"):
             shutil.copy2(TOP / file, copy / file)
     except OSError as why:
