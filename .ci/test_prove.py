@@ -33,7 +33,7 @@ notes={notes}
 name=$(basename "$PWD")
 case $PWD in {top}/*) place=tree ;; *) place=copy ;; esac
 jobs=$3
-tell() { echo "$1:$name $place $jobs $(date +%s.%N)" >> "$notes/events"; }
+tell() { echo "$1:$name $place $jobs $(nice) $(date +%s.%N)" >> "$notes/events"; }
 if cmp -s src/lib.rt out/lib; then tell keeps; exit; fi
 tell begins
 if [ "$1" = run ] && [ -n "$(ls -d "$TMPDIR"/*/* 2> /dev/null)" ]; then echo "a copy is left"; exit 1; fi
@@ -73,6 +73,7 @@ class Span:
 
     place: str
     jobs: int
+    priority: int
     begin: float
     end: float = 0.0
 
@@ -163,7 +164,7 @@ class Tree(unittest.TestCase):
         return found
 
     def all_events(self) -> list[list[str]]:
-        """What happened: what, to which crate, in which tree, by how many processes, and when."""
+        """What happened: what, to which crate, in which tree, by how many processes of which priority, and when."""
         return [it.replace(":", " ", 1).split() for it in (self.notes / "events").read_text().splitlines()]
 
     def events(self, kind: str) -> list[str]:
@@ -173,14 +174,14 @@ class Tree(unittest.TestCase):
     def go_on(self) -> None:
         """Lets crates end that wait for it."""
         with (self.notes / "events").open("a") as file:
-            file.write("go:on - - -\n")
+            file.write("go:on - - - -\n")
 
     def spans(self) -> dict[str, Span]:
         """When each crate was proved."""
         found: dict[str, Span] = {}
-        for kind, name, place, jobs, moment in self.all_events():
+        for kind, name, place, jobs, priority, moment in self.all_events():
             if kind == "begins":
-                found[name] = Span(place, int(jobs), float(moment))
+                found[name] = Span(place, int(jobs), int(priority) - os.nice(0), float(moment))
             elif kind == "ends":
                 found[name].end = float(moment)
         return found
@@ -219,9 +220,11 @@ class Order(Tree):
                 self.assertLess(spans[below].end, it.begin, name)
                 self.assertTrue((self.top / f"crates/{below}/out/lib").exists() and self.work(below), below)
         self.assertEqual((self.most(), self.most("tree")), (3, 1))
-        shown = {name: (it.place, it.jobs) for name, it in spans.items()}
-        self.assertEqual((shown["base"], shown["lone"], shown["trdpd"]), (("tree", 4), ("copy", 2), ("tree", 4)))
-        self.assertEqual(sorted([shown["left"], shown["right"]]), [("copy", 2), ("tree", 4)])
+        shown = {name: (it.place, it.jobs, it.priority) for name, it in spans.items()}
+        # There is no priority below 19, where this test may run itself.
+        first, second = ("tree", 4, 0), ("copy", 2, min(10, 19 - os.nice(0)))
+        self.assertEqual((shown["base"], shown["lone"], shown["trdpd"]), (first, second, first))
+        self.assertEqual(sorted([shown["left"], shown["right"]]), [second, first])
 
     def test_copies_may_be_on_another_disk(self) -> None:
         memory = pathlib.Path("/dev/shm")
@@ -243,7 +246,7 @@ class Order(Tree):
         self.change("package/prove.py", ("LEAST = 30.0, 0.02, 3.0", "LEAST = 0.1, 0.02, 0.0"))
         self.await_events(base="go:on")
         proof = self.begin()
-        self.reads(proof, r"run: 0:\d\d  [01] of 6 crates, now base \(30 of 40 functions\)(, lone.*)?, about 1 min more")
+        self.reads(proof, r"run: 0:\d\d  [01] of 6 crates, now base \(30 of 40 functions\).*, about 1 min more")
         self.go_on()
         self.said(proof, 0)
         self.note("events")

@@ -6,6 +6,7 @@
 A crate begins when the crates below it are proved, the crate with the longest chain of crates above it first. At most
 as many crates are proved at a time as there are processors, and only one for each 3 GB of free memory. The crate with
 the longest chain gets that number of processes, up to four; the second one gets half of it, and the third one a third.
+The others have a lower priority than the first one, because only the first one decides when the program is proved.
 
 One crate is proved in this tree, and each other crate in a copy of it, because two `rt` in one tree wait for each
 other. What `rt` made in a copy is moved into this tree, also after a failure or an interrupt. If there is no room for a
@@ -44,6 +45,8 @@ MEMORY, PROCESSES = 3_000_000_000, 4
 # Seconds: between two lines about the progress, and between two looks at the processes. A crate that took less than
 # LEAST had been proved before.
 TELLS, LOOKS, LEAST = 30.0, 0.1, 3.0
+# What lowers the priority of a crate's processes.
+LOWER = ["nice", "-n", "10"]
 # Seconds for each byte of a crate's sources, as long as no crate was proved here.
 GUESS = 0.0008
 
@@ -159,7 +162,8 @@ class Build:
                 continue
             ahead = sum(longest[it.name] >= longest[name] for it in self.running)
             jobs = max(1, min(PROCESSES, self.at_once // (ahead + 1)))
-            words = [self.rt, "run" if name == record.PROGRAM else "lib", "--jobs", str(jobs)]
+            command = "run" if name == record.PROGRAM else "lib"
+            words = [*(LOWER if ahead else []), self.rt, command, "--jobs", str(jobs)]
             path = NOTES / f"{name}.log"
             with open(path, "wb") as log:
                 # It inherits the lock of the build, so that another ./run waits even if this process is killed.
