@@ -197,7 +197,7 @@ end
 
 -- The basic types: how many bytes a value has, and its text.
 local BASIC = {
-    BOOL8 = { 1, unsigned }, CHAR8 = { 1, unsigned }, UTF16 = { 2, unsigned },
+    BOOL8 = { 1, unsigned }, BITSET8 = { 1, unsigned }, CHAR8 = { 1, unsigned }, UTF16 = { 2, unsigned },
     INT8 = { 1, signed }, INT16 = { 2, signed }, INT32 = { 4, signed }, INT64 = { 8, signed },
     UINT8 = { 1, unsigned }, UINT16 = { 2, unsigned }, UINT32 = { 4, unsigned }, UINT64 = { 8, unsigned },
     TIMEDATE32 = { 4, unsigned }, TIMEDATE48 = { 6, pair }, TIMEDATE64 = { 8, pair },

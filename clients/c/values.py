@@ -22,8 +22,8 @@ HERE = pathlib.Path(__file__).resolve().parent
 sys.path.insert(0, str(HERE.parent / "python"))
 from trdp_slot import BASIC_TYPES, COUNT_TYPES, DEPTH_MOST, Datasets, DoesNotFit, Element, Number  # noqa: E402
 
-NUMBERS = {"BOOL8": 1, "CHAR8": 2, "UTF16": 3, "INT8": 4, "INT16": 5, "INT32": 6, "INT64": 7, "UINT8": 8, "UINT16": 9,
-           "UINT32": 10, "UINT64": 11, "TIMEDATE32": 14, "TIMEDATE48": 15, "TIMEDATE64": 16}
+NUMBERS = {"BOOL8": 1, "BITSET8": 1, "CHAR8": 2, "UTF16": 3, "INT8": 4, "INT16": 5, "INT32": 6, "INT64": 7, "UINT8": 8,
+           "UINT16": 9, "UINT32": 10, "UINT64": 11, "TIMEDATE32": 14, "TIMEDATE48": 15, "TIMEDATE64": 16}
 # The numbers of the header's errors that are compared.
 OK, CUT, NO_FIT = "OK", "CUT", "NO_FIT"
 FIRST = 1000  # the number of the first dataset

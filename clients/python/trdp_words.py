@@ -15,7 +15,7 @@ import sys
 from collections.abc import Callable
 from typing import NamedTuple, NoReturn
 
-from trdp_slot import Datasets
+from trdp_slot import ConfigFault, Datasets
 
 U32_MOST = 0xFFFFFFFF
 I32_MOST = 0x7FFFFFFF
@@ -112,6 +112,8 @@ def datasets_of(path: str) -> Datasets:
     """The datasets of a file. Raises OSError, and ValueError with the file."""
     try:
         return Datasets.from_toml(path)
+    except ConfigFault:
+        raise
     except ValueError as fault:
         raise ValueError(f"{path}: {fault}") from None
 

@@ -21,18 +21,20 @@ from ._faults import (AlreadyClosed, Busy, ConfigFault, DoesNotFit, NoAnswer, No
 from ._indications import (Alive, Asked, Closed, Confirmed, Handle, Indication, Lost, Notified, Overrun, Replied,
                            Restarted, Silent, Value)
 from ._limits import ANY, DATAGRAM_MOST, LEASE_MOST, LINE_MOST, MD_MOST, PATH_MOST, PD_MOST, SLOTS_MOST
+from ._names import TelegramTable
 from ._operator import Kinds, Operator, Totals, Usage
 from ._place import control_place
 from ._slot import Slot
-from ._types import (BASIC_TYPES, COUNT_TYPES, DEPTH_MOST, FIRST_DATASET, REAL_TYPES, TYPE_NAMES, Element, Number, Time)
+from ._types import (AS_TYPES, BASIC_TYPES, COUNT_TYPES, DEPTH_MOST, FIRST_DATASET, REAL_TYPES, TYPE_NAMES, Element,
+                     Number, Time, is_count)
 
 __all__ = [
-    "ANY", "BASIC_TYPES", "COUNT_TYPES", "DATAGRAM_MOST", "DEPTH_MOST", "FIRST_DATASET", "LEASE_MOST", "LINE_MOST",
-    "MD_MOST", "PATH_MOST", "PD_MOST", "REAL_TYPES", "SLOTS_MOST", "TYPE_NAMES",
+    "ANY", "AS_TYPES", "BASIC_TYPES", "COUNT_TYPES", "DATAGRAM_MOST", "DEPTH_MOST", "FIRST_DATASET", "LEASE_MOST",
+    "LINE_MOST", "MD_MOST", "PATH_MOST", "PD_MOST", "REAL_TYPES", "SLOTS_MOST", "TYPE_NAMES",
     "Alive", "AlreadyClosed", "Asked", "AsyncSlot", "Busy", "Closed", "ConfigFault", "Confirmed", "Datasets",
     "DoesNotFit", "Element", "Handle", "Indication", "Kinds", "Lost", "NoAnswer", "Nobody", "Notified", "Number",
     "Operator", "OperatorsPort", "OtherSlot", "Overrun", "Refused", "Replied", "Restarted", "Silent", "Slot",
-    "SlotError", "Time", "Totals", "Usage", "Value", "WrongAnswer", "control_place",
+    "SlotError", "TelegramTable", "Time", "Totals", "Usage", "Value", "WrongAnswer", "control_place", "is_count",
 ]
 
 # By these names they are pickled, and shown in a traceback. The modules that define them are no one's but the client's.

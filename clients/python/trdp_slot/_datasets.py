@@ -8,10 +8,11 @@ from typing import Any
 
 from ._faults import ConfigFault, DoesNotFit
 from ._limits import MD_MOST
+from ._names import TelegramTable, check_names, dataset_tables, slot_names, telegram_tables
 from ._packing import pack_dataset, unpack_dataset
 from ._shown import shown
-from ._tables import config_number, element_of, read_toml, tables
-from ._types import BASIC_TYPES, COUNT_TYPES, DEPTH_MOST, FIRST_DATASET, Element
+from ._tables import faults_of, read_toml
+from ._types import BASIC_TYPES, COUNT_TYPES, DEPTH_MOST, Element
 
 
 class Datasets:
@@ -21,17 +22,25 @@ class Datasets:
     TIMEDATE48 or a TIMEDATE64, a list for a value of another dataset, and for an element whose size isn't 1 a list
     of these. Bytes are a value of dataset 0. For `{UINT8, UINT16 array of size 0}` it is [2, [700, 800]].
 
-    `com_ids` says of comIds which dataset their payload is, by the tables `[[telegram]] com_id = .. dataset = ..`
-    that a file may have beside its datasets. The node doesn't look at these.
+    `elements` has the elements of each dataset, `dataset_names` the names of those that have one, `telegrams` what the
+    tables `[[telegram]]` of a file say of comIds, and `com_ids` of each comId which dataset its payload is.
+    `slot_names` has the name of each slot, or None. The node looks at no name, and at no table `[[telegram]]`.
     """
 
-    def __init__(self, elements: Mapping[int, Sequence[Element]], com_ids: Mapping[int, int] | None = None) -> None:
+    def __init__(self, elements: Mapping[int, Sequence[Element]], com_ids: Mapping[int, int] | None = None, *,
+                 dataset_names: Mapping[int, str] | None = None, telegrams: Sequence[TelegramTable] = (),
+                 slot_names: Sequence[str | None] = ()) -> None:
         """Datasets by their numbers, with their elements. Raises ConfigFault where they don't fit together."""
         self.elements = {number: tuple(of) for number, of in elements.items()}
-        self.com_ids = dict(com_ids or {})
+        self.dataset_names = dict(dataset_names or {})
+        only = (TelegramTable(com_id, number) for com_id, number in (com_ids or {}).items())
+        self.telegrams = {it.com_id: it for it in (*only, *telegrams)}
+        self.com_ids = {it.com_id: it.dataset for it in self.telegrams.values()}
+        self.slot_names = tuple(slot_names)
         self._zero_sizes: dict[int, int] = {}
         for number, of in self.elements.items():
             self._check(number, of)
+            check_names(number, of)
         self._check_depth()
         for number in self.elements:
             if self.zero_size(number) > MD_MOST:
@@ -43,27 +52,18 @@ class Datasets:
     @classmethod
     def from_toml(cls, path: str | os.PathLike[str]) -> Datasets:
         """The datasets of a node's configuration, or of any other file that has `[[dataset]]` tables as
-        examples/node.toml explains them. Raises ConfigFault, OSError, or tomllib.TOMLDecodeError."""
-        return cls.from_tables(read_toml(path))
+        examples/node.toml explains them. Raises ConfigFault, which names the file, OSError, or
+        tomllib.TOMLDecodeError."""
+        with faults_of(path):
+            return cls.from_tables(read_toml(path))
 
     @classmethod
     def from_tables(cls, config: Mapping[str, Any]) -> Datasets:
         """The same of the tables of such a file."""
-        elements: dict[int, list[Element]] = {}
-        for table in tables(config, "dataset"):
-            number = config_number(table, "id", FIRST_DATASET, 0xFFFFFFFF)
-            if number in elements:
-                raise ConfigFault(f"dataset {number} is there twice")
-            elements[number] = [element_of(number, it) for it in tables(table, "element")]
-            if not 0 < len(elements[number]) <= 256:
-                raise ConfigFault(f"dataset {number} has {len(elements[number])} elements, and not 1 to 256")
-        com_ids: dict[int, int] = {}
-        for table in tables(config, "telegram"):
-            com_id = config_number(table, "com_id", 0, 0xFFFFFFFF)
-            if com_id in com_ids:
-                raise ConfigFault(f"comId {com_id} is there twice")
-            com_ids[com_id] = config_number(table, "dataset", 0, 0xFFFFFFFF)
-        return cls(elements, com_ids)
+        found = dataset_tables(config)
+        return cls({it.number: it.elements for it in found}, telegrams=telegram_tables(config),
+                   dataset_names={it.number: it.name for it in found if it.name is not None},
+                   slot_names=slot_names(config))
 
     def _check(self, number: int, elements: Sequence[Element]) -> None:
         counts = False

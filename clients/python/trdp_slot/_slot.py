@@ -15,6 +15,7 @@ from ._limits import LEASE_MOST, SLOTS_MOST
 from ._message_calls import MessageCalls
 from ._place import socket_path, where_is
 from ._process_calls import ProcessCalls
+from ._tables import faults_of
 from ._terms import Terms
 from ._times import end_of, left
 from ._words import typed, whole
@@ -89,11 +90,12 @@ class Slot(ProcessCalls, MessageCalls, Hearing):
         terms = Terms(None if number is None else whole("number", number, 0, SLOTS_MOST - 1),
                       whole("answer_us", answer_us, 1), whole("tries", tries, 1), restore,
                       None if lease_us is None else whole("lease_us", lease_us, 1, LEASE_MOST))
-        where = where_is(config, slot, controls, number)
-        terms.place = where.place
-        if where.tables is not None:
-            datasets = datasets or Datasets.from_tables(where.tables)
-            terms.number = slot
+        with faults_of(config):
+            where = where_is(config, slot, controls, number)
+            terms.place = where.place
+            if where.tables is not None:
+                datasets = datasets or Datasets.from_tables(where.tables)
+                terms.number = slot
         if where.folder is not None:
             terms.path = socket_path("controls", where.folder, where.port)
         super().__init__(terms, Datasets({}) if datasets is None else typed("datasets", datasets, Datasets, "Datasets"),

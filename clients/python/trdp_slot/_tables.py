@@ -1,14 +1,14 @@
 """The tables of a configuration."""
 from __future__ import annotations
 
+import contextlib
 import os
 import tomllib
-from collections.abc import Mapping
+from collections.abc import Iterator, Mapping
 from typing import Any
 
 from ._faults import ConfigFault
 from ._shown import shown
-from ._types import BASIC_TYPES, FIRST_DATASET, REAL_TYPES, TYPE_NAMES, Element
 
 TOML_MOST = 1 << 24  # bytes of a file that is read: a device such as /dev/zero has no end
 
@@ -22,6 +22,15 @@ def read_toml(path: str | os.PathLike[str]) -> dict[str, Any]:
         return tomllib.loads(data.decode())
     except RecursionError:
         raise ConfigFault("arrays or tables nest too deep") from None
+
+
+@contextlib.contextmanager
+def faults_of(path: str | os.PathLike[str]) -> Iterator[None]:
+    """Has each fault that is found within name the file."""
+    try:
+        yield
+    except ConfigFault as fault:
+        raise ConfigFault(f"{os.fspath(path)}: {fault}") from None
 
 
 def tables(table: Mapping[str, Any], key: str) -> list[Mapping[str, Any]]:
@@ -43,16 +52,3 @@ def config_number(table: Mapping[str, Any], key: str, low: int, high: int, defau
     if not isinstance(number, int) or isinstance(number, bool) or not low <= number <= high:
         raise ConfigFault(f"{where}{key} is {shown(number)}, and no whole number of {low} to {high}")
     return number
-
-
-def element_of(number: int, table: Mapping[str, Any]) -> Element:
-    """The element of a dataset that a table says."""
-    kind = table.get("type")
-    if kind in REAL_TYPES:
-        raise ConfigFault(f"dataset {number}: the node takes no {kind}")
-    if isinstance(kind, bool) or not isinstance(kind, (int, str)):
-        raise ConfigFault(f"dataset {number}: type is {kind!r}, and no name or number")
-    name: str | int = TYPE_NAMES.get(kind, kind)
-    if not (name in BASIC_TYPES or isinstance(name, int) and FIRST_DATASET <= name <= 0xFFFFFFFF):
-        raise ConfigFault(f"dataset {number}: there is no type {kind!r}")
-    return Element(name, config_number(table, "size", 0, 0xFFFF, default=1))

@@ -1,7 +1,7 @@
 """The basic types, and the elements of a dataset."""
 from __future__ import annotations
 
-from collections.abc import Mapping
+from collections.abc import Mapping, Sequence
 from typing import NamedTuple
 
 
@@ -31,6 +31,7 @@ def unsigned(code: str, bits: int) -> Number:
 
 BASIC_TYPES: Mapping[str, Number | Time] = {
     "BOOL8": unsigned("B", 8),
+    "BITSET8": unsigned("B", 8),
     "CHAR8": unsigned("B", 8),
     "UTF16": unsigned("H", 16),
     "INT8": signed("b", 8),
@@ -51,10 +52,14 @@ NUMBERED: dict[int | str, str] = {
     1: "BOOL8", 2: "CHAR8", 3: "UTF16", 4: "INT8", 5: "INT16", 6: "INT32", 7: "INT64", 8: "UINT8", 9: "UINT16",
     10: "UINT32", 11: "UINT64", 14: "TIMEDATE32", 15: "TIMEDATE48", 16: "TIMEDATE64",
 }
-TYPE_NAMES: Mapping[int | str, str] = {**NUMBERED, **{name: name for name in BASIC_TYPES}, "BITSET8": "BOOL8"}
-"""The name of a basic type, by what a configuration may have for it."""
+TYPE_NAMES: Mapping[int | str, str] = {**NUMBERED, **{name: name for name in BASIC_TYPES}}
+"""The name of a basic type, by what a configuration may have for it. The number 1 is that of BOOL8 and of BITSET8."""
 
-REAL_TYPES = (12, 13, "REAL32", "REAL64")
+AS_TYPES: Mapping[str, str] = {"REAL32": "UINT32", "REAL64": "UINT64", "ANTIVALENT8": "BITSET8"}
+"""What an element may be read as, by the key `as`, and over which type each stands, which is that of the node."""
+
+REAL_TYPES: Mapping[int | str, str] = {12: "REAL32", 13: "REAL64", "REAL32": "REAL32", "REAL64": "REAL64"}
+"""The types that the node doesn't take, by what a configuration may have for them."""
 COUNT_TYPES = ("UINT8", "UINT16", "UINT32")
 DEPTH_MOST = 5
 FIRST_DATASET = 31
@@ -62,7 +67,20 @@ FIRST_DATASET = 31
 
 class Element(NamedTuple):
     """An element of a dataset: a basic type's name or the number of a dataset, and how many values it has: 1 is a
-    single one, more an array of that many, and 0 an array of as many as the element before it says."""
+    single one, more an array of that many, and 0 an array of as many as the element before it says.
+
+    The rest is for programs and people, and the node ignores it: its name; the key `as` of AS_TYPES; the unit; and by
+    `raw * scale + offset` the number that people read. Programs pass raw numbers."""
 
     type: str | int
     size: int
+    name: str | None = None
+    as_: str | None = None
+    unit: str = ""
+    scale: float = 1.0
+    offset: float = 0.0
+
+
+def is_count(elements: Sequence[Element], index: int) -> bool:
+    """Whether an element counts the array behind it."""
+    return index + 1 < len(elements) and elements[index + 1].size == 0
