@@ -24,7 +24,9 @@ from ._limits import ANY, DATAGRAM_MOST, LEASE_MOST, LINE_MOST, MD_MOST, PATH_MO
 from ._names import TelegramTable
 from ._operator import Kinds, Operator, Totals, Usage
 from ._place import control_place
+from ._readings import decimals_of, reading_of
 from ._slot import Slot
+from ._timedates import TimeDate48, TimeDate64
 from ._types import (AS_TYPES, BASIC_TYPES, COUNT_TYPES, DEPTH_MOST, FIRST_DATASET, REAL_TYPES, TYPE_NAMES, Element,
                      Number, Time, is_count)
 
@@ -34,7 +36,8 @@ __all__ = [
     "Alive", "AlreadyClosed", "Asked", "AsyncSlot", "Busy", "Closed", "ConfigFault", "Confirmed", "Datasets",
     "DoesNotFit", "Element", "Handle", "Indication", "Kinds", "Lost", "NoAnswer", "Nobody", "Notified", "Number",
     "Operator", "OperatorsPort", "OtherSlot", "Overrun", "Refused", "Replied", "Restarted", "Silent", "Slot",
-    "SlotError", "TelegramTable", "Time", "Totals", "Usage", "Value", "WrongAnswer", "control_place", "is_count",
+    "SlotError", "TelegramTable", "Time", "TimeDate48", "TimeDate64", "Totals", "Usage", "Value", "WrongAnswer",
+    "control_place", "decimals_of", "is_count", "reading_of",
 ]
 
 # By these names they are pickled, and shown in a traceback. The modules that define them are no one's but the client's.

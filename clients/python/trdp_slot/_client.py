@@ -15,6 +15,7 @@ from ._datasets import Datasets
 from ._exchange import Exchange
 from ._faults import AlreadyClosed, DoesNotFit
 from ._objects import Objects
+from ._records import is_record
 from ._restoring import Restoring
 from ._shown import shown
 from ._sockets import Sockets
@@ -129,9 +130,11 @@ class Client:
         self._bell.show(bool(self._objects.told), self._sockets.link)
 
     def _payload(self, dataset: int, value: Any, most: int) -> bytes:
-        """The bytes of a value, or the bytes that it is."""
+        """The bytes of a value, or the bytes that it is. An instance of a dataclass knows its dataset."""
         if isinstance(value, (bytes, bytearray, memoryview)):
             return bytes(value)
+        if dataset == 0 and is_record(value):
+            dataset = type(value).trdp_dataset
         if whole("dataset", dataset, 0) == 0 or dataset not in self.datasets:
             raise DoesNotFit(f"dataset {dataset}: {shown(value)} is no bytes, and the dataset isn't known here")
         return self.datasets.pack(dataset, value, most)

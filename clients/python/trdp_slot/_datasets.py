@@ -1,18 +1,27 @@
 """The datasets of a configuration."""
 from __future__ import annotations
 
+import copy
+import datetime
 import os
 import struct
-from collections.abc import Mapping, Sequence
-from typing import Any
+from collections.abc import Callable, Mapping, Sequence
+from typing import Any, TypeVar, overload
 
+from ._codecs import Codecs
 from ._faults import ConfigFault, DoesNotFit
+from ._indications import Asked, Notified, Replied
 from ._limits import MD_MOST
+from ._misfits import Misfit
 from ._names import TelegramTable, check_names, dataset_tables, slot_names, telegram_tables
-from ._packing import pack_dataset, unpack_dataset
+from ._records import must_be_class
 from ._shown import shown
 from ._tables import faults_of, read_toml
+from ._timedates import moment
 from ._types import BASIC_TYPES, COUNT_TYPES, DEPTH_MOST, Element
+from ._unpacking import Unpacker
+
+_Record = TypeVar("_Record")
 
 
 class Datasets:
@@ -22,6 +31,10 @@ class Datasets:
     TIMEDATE48 or a TIMEDATE64, a list for a value of another dataset, and for an element whose size isn't 1 a list
     of these. Bytes are a value of dataset 0. For `{UINT8, UINT16 array of size 0}` it is [2, [700, 800]].
 
+    Where all elements but counts have names, a dict by these names is a value, too, and a count may be left out. With
+    `named`, `unpack` returns dicts (a list where an element has no name), and in them what the numbers mean: a bool, a
+    float or a text. Instances of dataclasses that `trdp-structs` wrote are as dicts.
+
     `elements` has the elements of each dataset, `dataset_names` the names of those that have one, `telegrams` what the
     tables `[[telegram]]` of a file say of comIds, and `com_ids` of each comId which dataset its payload is.
     `slot_names` has the name of each slot, or None. The node looks at no name, and at no table `[[telegram]]`.
@@ -29,14 +42,17 @@ class Datasets:
 
     def __init__(self, elements: Mapping[int, Sequence[Element]], com_ids: Mapping[int, int] | None = None, *,
                  dataset_names: Mapping[int, str] | None = None, telegrams: Sequence[TelegramTable] = (),
-                 slot_names: Sequence[str | None] = ()) -> None:
-        """Datasets by their numbers, with their elements. Raises ConfigFault where they don't fit together."""
+                 slot_names: Sequence[str | None] = (), named: bool = False) -> None:
+        """Datasets by their numbers, with their elements. `named` is whether their values are returned by names. Raises
+        ConfigFault where they don't fit together."""
         self.elements = {number: tuple(of) for number, of in elements.items()}
         self.dataset_names = dict(dataset_names or {})
         only = (TelegramTable(com_id, number) for com_id, number in (com_ids or {}).items())
         self.telegrams = {it.com_id: it for it in (*only, *telegrams)}
         self.com_ids = {it.com_id: it.dataset for it in self.telegrams.values()}
         self.slot_names = tuple(slot_names)
+        self.named = named
+        self._codecs = Codecs(self.elements)
         self._zero_sizes: dict[int, int] = {}
         for number, of in self.elements.items():
             self._check(number, of)
@@ -50,20 +66,20 @@ class Datasets:
                 raise ConfigFault(f"comId {com_id}: there is no dataset {number}")
 
     @classmethod
-    def from_toml(cls, path: str | os.PathLike[str]) -> Datasets:
+    def from_toml(cls, path: str | os.PathLike[str], *, named: bool = False) -> Datasets:
         """The datasets of a node's configuration, or of any other file that has `[[dataset]]` tables as
         examples/node.toml explains them. Raises ConfigFault, which names the file, OSError, or
         tomllib.TOMLDecodeError."""
         with faults_of(path):
-            return cls.from_tables(read_toml(path))
+            return cls.from_tables(read_toml(path), named=named)
 
     @classmethod
-    def from_tables(cls, config: Mapping[str, Any]) -> Datasets:
+    def from_tables(cls, config: Mapping[str, Any], *, named: bool = False) -> Datasets:
         """The same of the tables of such a file."""
         found = dataset_tables(config)
         return cls({it.number: it.elements for it in found}, telegrams=telegram_tables(config),
                    dataset_names={it.number: it.name for it in found if it.name is not None},
-                   slot_names=slot_names(config))
+                   slot_names=slot_names(config), named=named)
 
     def _check(self, number: int, elements: Sequence[Element]) -> None:
         counts = False
@@ -101,7 +117,8 @@ class Datasets:
         return b"" if number == 0 else self.unpack(number, bytes(self.zero_size(number)))
 
     def pack(self, number: int, value: Any, most: int = MD_MOST) -> bytes:
-        """The bytes of a value of a dataset, as the node has them: packed, with the highest byte first.
+        """The bytes of a value of a dataset, as the node has them: packed, with the highest byte first. The value is a
+        list, a dict by names, or an instance of a dataclass that `trdp-structs` wrote, and so are those in it.
 
         Raises DoesNotFit, with the place in the dataset, where the value isn't one of it, or has more bytes than
         `most`, and KeyError where there is no such dataset."""
@@ -110,21 +127,76 @@ class Datasets:
                 raise DoesNotFit(f"dataset 0: {shown(value)} is no bytes")
             data = bytes(value)
         else:
-            parts: list[bytes] = []
-            pack_dataset(self.elements, number, value, (f"dataset {number}",), parts)
-            data = b"".join(parts)
+            packer = self._codecs.packer(number)
+            try:
+                data = packer.pack(value)
+            except Misfit as fault:
+                raise self._no_value(number, fault) from None
         if len(data) > most:
-            raise DoesNotFit(f"dataset {number}: the value has {len(data)} bytes, and at most {most} are carried")
+            raise DoesNotFit(f"{self.title(number)}: the value has {len(data)} bytes, and at most {most} are carried")
         return data
 
-    def unpack(self, number: int, data: bytes) -> Any:
-        """The value of a dataset that these bytes are; bytes for dataset 0.
+    @overload
+    def unpack(self, number: int, data: bytes, *, into: None = None) -> Any: ...
 
-        Raises DoesNotFit, with the place in the dataset, where they are none: too few, or some left over. KeyError
-        where there is no such dataset."""
-        if number == 0:
-            return bytes(data)
-        value, end = unpack_dataset(self.elements, number, bytes(data), 0, (f"dataset {number}",))
+    @overload
+    def unpack(self, number: int, data: bytes, *, into: type[_Record]) -> _Record: ...
+
+    def unpack(self, number: int, data: bytes, *, into: type[Any] | None = None) -> Any:
+        """The value of a dataset that these bytes are; bytes for dataset 0. It is a list, or by names where `named` is
+        set, or an instance of `into`, a dataclass that `trdp-structs` wrote; bytes of dataset 0 are a value of its
+        dataset, then.
+
+        Raises DoesNotFit, with the place in the dataset, where the bytes are no value: too few, or some left over; or
+        where `into` is of another dataset. TypeError where it is no such class, and KeyError where there is no such
+        dataset."""
+        if into is not None:
+            must_be_class(into)
+            number = number or into.trdp_dataset
+        return bytes(data) if number == 0 else self._whole(number, data, lambda: self._unpacker(number, into))
+
+    def _whole(self, number: int, data: bytes, of: Callable[[], Unpacker]) -> Any:
+        """What an unpacker makes of all these bytes. Raises DoesNotFit, also where there is no unpacker for it."""
+        try:
+            value, end = of().unpack(bytes(data), 0)
+        except Misfit as fault:
+            raise self._no_value(number, fault) from None
         if end != len(data):
-            raise DoesNotFit(f"dataset {number}: {len(data) - end} bytes are left over")
+            raise DoesNotFit(f"{self.title(number)}: {len(data) - end} bytes are left over")
         return value
+
+    def _unpacker(self, number: int, into: type[Any] | None) -> Unpacker:
+        if into is not None:
+            return self._codecs.by_fields(number, into)
+        return self._codecs.by_names(number) if self.named else self._codecs.lists(number)
+
+    def _no_value(self, number: int, fault: Misfit) -> DoesNotFit:
+        """A fault, with its place in the dataset."""
+        return DoesNotFit(fault.text(self.title(number), number in self.dataset_names))
+
+    def title(self, number: int) -> str:
+        """How people call a dataset: by its name, or where it has none by its number."""
+        return self.dataset_names.get(number, f"dataset {number}")
+
+    def reading(self, number: int, data: bytes) -> str:
+        """What people read of a value of a dataset: `{state: [0, 2], speed: 25.3 km/h (253)}`. It has the names and
+        units, `raw * scale + offset` where an element has these, a bool, a float or a text, and in brackets behind it
+        the raw number where that is another one. Without names and `as` it is the list. Raises what `unpack` raises."""
+        return data.hex() if number == 0 else str(self._whole(number, data, lambda: self._codecs.readings(number)))
+
+    def of_message(self, told: Notified | Asked | Replied, *, into: type[Any] | None = None) -> Any:
+        """The value of a message that the node reports, by the dataset of its comId; its bytes where no table
+        `[[telegram]]` says one. The node doesn't look at it: raises DoesNotFit where it is none."""
+        return self.unpack(self.com_ids.get(told.com_id, 0), told.payload, into=into)
+
+    @staticmethod
+    def time(value: int | tuple[int, int]) -> datetime.datetime:
+        """The moment in UTC that a TIMEDATE32, 48 or 64 is, a number or a pair, as `unpack` returns it. A pair of the
+        program's own is one of a TIMEDATE64, seconds and microseconds, unless it is a TimeDate48."""
+        return moment(value)
+
+    def by_names(self) -> Datasets:
+        """The same datasets, whose values are returned by names."""
+        same = copy.copy(self)
+        same.named = True
+        return same

@@ -1,96 +1,196 @@
-"""How a value of a dataset becomes bytes, and bytes a value."""
+"""How values of datasets become bytes.
+
+A value of a dataset is a list in the order of its elements, a dict by their names, or an instance of a dataclass that
+has a field for each. What is known of a dataset is worked out once.
+"""
 from __future__ import annotations
 
-import struct
-from collections.abc import Mapping, Sequence
+import contextlib
+import operator
+from collections.abc import Callable, Mapping, Sequence
 from typing import Any
 
-from ._faults import DoesNotFit
+from ._items import Packs, item_of
+from ._misfits import Misfit, Place
+from ._records import fields_of, is_record
 from ._shown import shown
-from ._types import BASIC_TYPES, Element, Number, Time
-
-Elements = Mapping[int, Sequence[Element]]  # those of each dataset, by its number
-Way = tuple[str, ...]  # from a dataset to a value in it, in words
+from ._texts import ENCODINGS, text_bytes
+from ._types import Element, nameless
 
 
-def fault_at(way: Way, text: str) -> DoesNotFit:
-    return DoesNotFit(f"{', '.join(way)}: {text}")
+class Single:
+    """An element that is a single value."""
+
+    def __init__(self, item: Packs) -> None:
+        self._pack = item.pack
+
+    def pack(self, entry: Any, count: Any) -> bytes:
+        """The bytes of its entry in a value; `count` is the entry before. Raises Misfit."""
+        return self._pack(entry)
 
 
-def pack_dataset(elements: Elements, number: int, value: Any, way: Way, parts: list[bytes]) -> None:
-    """Appends the bytes of a value of a dataset to the parts."""
-    entries = listed(value, len(elements[number]), way)
-    count: Any = 0
-    for index, (element, entry) in enumerate(zip(elements[number], entries)):
-        at = (*way, f"element {index}")
-        if element.size == 1:
-            pack_items(elements, element.type, [entry], at, parts, is_array=False)
+class Array:
+    """An element that is an array, of that size or, where it is 0, of as many values as the entry before says."""
+
+    forms = "list"
+
+    def __init__(self, item: Packs, size: int) -> None:
+        self._pack_all = item.pack_all
+        self._size = size
+
+    def pack(self, entry: Any, count: Any) -> bytes:
+        """The same."""
+        if not isinstance(entry, (list, tuple)):
+            raise Misfit(f"{shown(entry)} is no {self.forms}")
+        size = self._size or count
+        if len(entry) != size:
+            raise Misfit(f"the list has {len(entry)} entries, and not {size}")
+        return self._pack_all(entry)
+
+    def count(self, entry: Any) -> int:
+        """How many values an entry has; 0 for what is none, which is refused when it is packed."""
+        return len(entry) if isinstance(entry, (list, tuple)) else 0
+
+
+class Text(Array):
+    """An array of CHAR8 or UTF16: a list of numbers, or a text, behind which there are zeros."""
+
+    forms = "list or text"
+
+    def __init__(self, item: Packs, size: int, kind: str | int) -> None:
+        super().__init__(item, size)
+        self._kind = kind
+        self._width = ENCODINGS[kind][1]
+
+    def pack(self, entry: Any, count: Any) -> bytes:
+        if not isinstance(entry, str):
+            return super().pack(entry, count)
+        data = text_bytes(self._kind, entry)
+        most = (self._size or count) * self._width
+        if len(data) > most:
+            raise Misfit(f"{shown(entry)} has {len(data)} bytes, and at most {most} are there")
+        return data.ljust(most, b"\0")
+
+    def count(self, entry: Any) -> int:
+        if not isinstance(entry, str):
+            return super().count(entry)
+        with contextlib.suppress(Misfit):
+            return len(text_bytes(self._kind, entry)) // self._width
+        return 0
+
+
+Step = Single | Array
+
+
+class Picker:
+    """Puts what a value has by keys into the order of the elements: a dict by names, or an instance by fields."""
+
+    def __init__(self, keys: Sequence[str | None], steps: Sequence[Step], elements: Sequence[Element],
+                 getter: Callable[..., Callable[[Any], Any]], get: Callable[[Any, str], Any]) -> None:
+        """By the key of each element, of which only counts may have none. `getter` makes what finds the entries of
+        keys, and `get` finds that of one, or None."""
+        arrays = {at - 1: step for at, step in enumerate(steps) if isinstance(step, Array) and elements[at].size == 0}
+        self.wanted = [key for index, key in enumerate(keys) if key is not None and index not in arrays]
+        self.whole = None if None in keys else tuple_by(getter, keys)
+        self._find = tuple_by(getter, self.wanted)
+        self._get = get
+        self._counts = [(index, keys[index], array) for index, array in arrays.items()]
+
+    def entries(self, value: Any) -> Sequence[Any]:
+        """The entries of a value that may lack counts: such a one is the length of the array behind it. Of one that
+        lacks none, `whole` finds them sooner. Both raise what `getter` makes them raise."""
+        entries = list(self._find(value))
+        for index, key, array in self._counts:
+            # The counts before this one are in their places by now, so its array is where it will be itself.
+            count = None if key is None else self._get(value, key)
+            entries.insert(index, array.count(entries[index]) if count is None else count)
+        return entries
+
+
+def tuple_by(getter: Callable[..., Callable[[Any], Any]], keys: Sequence[str | None]) -> Callable[[Any], Sequence[Any]]:
+    """What finds the entries of all these keys."""
+    find = getter(*keys)
+    return find if len(keys) > 1 else lambda value: (find(value),)
+
+
+def found(value: Mapping[str, Any], name: str) -> Any:
+    """What a dict has by that name, or None."""
+    return value.get(name)
+
+
+class Packer(Packs):
+    """Makes bytes of the values of a dataset."""
+
+    def __init__(self, number: int, elements: Sequence[Element], inner: Callable[[int], Packs]) -> None:
+        """`inner` answers what makes bytes of the values of another dataset, which is an element of this one."""
+        self._number = number
+        self._elements = elements
+        self._places = [Place(index, element.name) for index, element in enumerate(elements)]
+        self._in_lists = [step_of(element, True, inner) for element in elements]
+        self._by_keys = [step_of(element, False, inner) for element in elements]
+        names = [element.name for element in elements]
+        self._names = frozenset(names)
+        self._nameless = nameless(elements)
+        self._by_names = None if self._nameless else Picker(names, self._by_keys, elements, operator.itemgetter, found)
+        self._by_fields: dict[type, Picker] = {}
+
+    def pack(self, value: Any) -> bytes:
+        if isinstance(value, (list, tuple)):
+            if len(value) != len(self._elements):
+                raise Misfit(f"the list has {len(value)} entries, and not {len(self._elements)}")
+            steps, entries = self._in_lists, value
+        elif isinstance(value, (dict, Mapping)):
+            steps, entries = self._by_keys, self._named(value)
         else:
-            items = listed(entry, element.size or count, at)
-            pack_items(elements, element.type, items, at, parts, is_array=True)
-        count = entry  # of an array of size 0 after it
+            steps, entries = self._by_keys, self._fielded(value)
+        parts = []
+        count = None
+        for place, step, entry in zip(self._places, steps, entries):
+            try:
+                parts.append(step.pack(entry, count))
+            except Misfit as fault:
+                raise fault.within(place)
+            count = entry
+        return b"".join(parts)
+
+    def _named(self, value: Mapping[str, Any]) -> Sequence[Any]:
+        """The entries of a dict, which has each name once, and no other one."""
+        picker = self._by_names
+        if picker is None:
+            raise Misfit(f"a dict can't say element {self._nameless[0]}, which has no name: a list can")
+        try:
+            if picker.whole is not None and len(value) == len(self._elements):
+                return picker.whole(value)
+            entries = picker.entries(value)
+        except KeyError:
+            raise wrong_names(value, picker.wanted, self._names) from None
+        if len(value) != len(picker.wanted) and not value.keys() <= self._names:
+            raise wrong_names(value, picker.wanted, self._names)
+        return entries
+
+    def _fielded(self, value: Any) -> Sequence[Any]:
+        """The entries of an instance of a dataclass of this dataset."""
+        if not is_record(value):
+            raise Misfit(f"{shown(value)} is no list, dict or dataclass")
+        kind = type(value)
+        if kind not in self._by_fields:
+            fields = fields_of(kind, self._number, self._elements)
+            self._by_fields[kind] = Picker(fields, self._by_keys, self._elements, operator.attrgetter, getattr)
+        picker = self._by_fields[kind]
+        return picker.whole(value) if picker.whole is not None else picker.entries(value)
 
 
-def pack_items(elements: Elements, kind: str | int, items: Sequence[Any], at: Way, parts: list[bytes],
-               is_array: bool) -> None:
-    """Appends the bytes of the values of an element."""
-    for index, item in enumerate(items):
-        way = (*at, f"item {index}") if is_array else at
-        if isinstance(kind, int):
-            pack_dataset(elements, kind, item, way, parts)
-        else:
-            parts.append(pack_basic(kind, item, way))
+def step_of(element: Element, is_raw: bool, inner: Callable[[int], Packs]) -> Step:
+    """How an element is packed, in a list, where numbers are raw, or by names."""
+    kind = element.type
+    item = inner(kind) if isinstance(kind, int) else item_of(kind, element.as_, is_raw)
+    if element.size == 1:
+        return Single(item)
+    return Text(item, element.size, kind) if kind in ENCODINGS else Array(item, element.size)
 
 
-def listed(value: Any, count: int, way: Way) -> Sequence[Any]:
-    """A list of that many entries."""
-    if not isinstance(value, (list, tuple)):
-        raise fault_at(way, f"{shown(value)} is no list")
-    if len(value) != count:
-        raise fault_at(way, f"the list has {len(value)} entries, and not {count}")
-    return value
-
-
-def pack_basic(kind: str, item: Any, way: Way) -> bytes:
-    basic = BASIC_TYPES[kind]
-    if isinstance(basic, Number):
-        if not isinstance(item, int) or not basic.low <= item <= basic.high:
-            raise fault_at(way, f"{shown(item)} is no {kind}, {basic.low} to {basic.high}")
-        return struct.pack(">" + basic.code, item)
-    if not isinstance(item, (tuple, list)) or len(item) != 2:
-        raise fault_at(way, f"{shown(item)} is no {kind}, a pair of numbers")
-    for half, highest in zip(item, basic.highest):
-        if not isinstance(half, int) or not 0 <= half <= highest:
-            raise fault_at(way, f"{shown(item)} is no {kind}: {shown(half)} isn't in 0 to {highest}")
-    return struct.pack(">" + basic.code, *item)
-
-
-def unpack_dataset(elements: Elements, number: int, data: bytes, offset: int, way: Way) -> tuple[list[Any], int]:
-    """The value of a dataset whose bytes begin at that offset, and the offset of their end."""
-    value: list[Any] = []
-    count: Any = 0
-    for index, element in enumerate(elements[number]):
-        at = (*way, f"element {index}")
-        items, offset = unpack_items(elements, element.type, element.size or count, data, offset, at)
-        value.append(items[0] if element.size == 1 else items)
-        count = value[-1]  # of an array of size 0 after it
-    return value, offset
-
-
-def unpack_items(elements: Elements, kind: str | int, count: int, data: bytes, offset: int,
-                 at: Way) -> tuple[list[Any], int]:
-    """The values of an element, and the offset of their end."""
-    if isinstance(kind, int):
-        # Each value has a byte at least, so that a count beyond the bytes ends where they do.
-        items = []
-        for index in range(count):
-            item, offset = unpack_dataset(elements, kind, data, offset, (*at, f"item {index}"))
-            items.append(item)
-        return items, offset
-    basic = BASIC_TYPES[kind]
-    size = struct.calcsize(">" + basic.code)
-    end = offset + count * size
-    if end > len(data):
-        raise fault_at(at, f"{len(data) - offset} bytes are left, and {count} of {kind} have {count * size}")
-    values = list(struct.iter_unpack(">" + basic.code, data[offset:end]))
-    return values if isinstance(basic, Time) else [it for it, in values], end
+def wrong_names(value: Mapping[str, Any], wanted: Sequence[str], names: frozenset[str | None]) -> Misfit:
+    """What is wrong with the names of a dict: one that no element has, or one that is missing, or both."""
+    unknown = [f"there is no element {shown(it)}" for it in value if it not in names]
+    missing = [f"{shown(it)} is missing" for it in wanted if it not in value]
+    return Misfit(", and ".join(unknown[:1] + missing[:1]))

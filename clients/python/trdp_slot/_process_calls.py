@@ -6,6 +6,7 @@ from typing import Any
 from ._client import Client, one_at_a_time
 from ._indications import Handle, Value
 from ._limits import ANY, PD_MOST
+from ._records import must_be_class
 from ._words import address_word, bytes_of, counts_words, hex_word, number_word, place_word
 
 
@@ -57,13 +58,17 @@ class ProcessCalls(Client):
         return self._calls.open("subscription", "subscribe", words, tries, dataset)
 
     @one_at_a_time
-    def get(self, handle: Handle | int, *, tries: int | None = None) -> Value:
-        """What a subscription shows: its state, the counter of its latest telegram, and the value. A second try
-        does no harm. Raises DoesNotFit where the daemon has another dataset of that number than this client."""
-        _, state, counter, data = self._calls.act("get", handle, [], self._terms.tries_of(tries), "value")
+    def get(self, handle: Handle | int, *, into: type[Any] | None = None, tries: int | None = None) -> Value:
+        """What a subscription shows: its state, the counter of its latest telegram, and the value, which is an instance
+        of `into`, where that is given: a dataclass that `trdp-structs` wrote. A second try does no harm. Raises
+        DoesNotFit where the daemon has another dataset of that number than this client."""
+        if into is not None:
+            must_be_class(into)
+        _, state, counter, word = self._calls.act("get", handle, [], self._terms.tries_of(tries), "value")
         dataset = handle.dataset if isinstance(handle, Handle) else 0
-        value = bytes_of(data)
-        return Value(state, int(counter), self.datasets.unpack(dataset, value) if dataset in self.datasets else value)
+        data = bytes_of(word)
+        is_value = into is not None or dataset in self.datasets
+        return Value(state, int(counter), self.datasets.unpack(dataset, data, into=into) if is_value else data)
 
     @one_at_a_time
     def unsubscribe(self, handle: Handle | int, *, tries: int | None = None) -> None:

@@ -76,7 +76,8 @@ class Slot(ProcessCalls, MessageCalls, Hearing):
 
     def __init__(self, config: str | os.PathLike[str], slot: int, /, *, controls: str | os.PathLike[str] | None = None,
                  datasets: Datasets | None = None, answer_us: int = 200_000, tries: int = 3, reset: bool = True,
-                 restore: bool = False, lease_us: int | None = None, number: int | None = None) -> None:
+                 restore: bool = False, lease_us: int | None = None, number: int | None = None,
+                 named: bool = False) -> None:
         """A client of slot `slot` of the node with that configuration, at its UDP port, or at its control socket in the
         folder `controls`; or at that address and port, such as 127.0.0.1 and 18000; or at the control socket of that
         folder and port, such as /run/trdpd and 18000. A folder that comes first has a /.
@@ -84,9 +85,10 @@ class Slot(ProcessCalls, MessageCalls, Hearing):
         `datasets` are those by which values are packed; where it is None, those of the configuration, and without one
         none: then values are bytes. `answer_us` is how long an answer is waited for, and `tries` how often a call is
         sent that may be made twice. `lease_us` is the daemon's lease; None where it has none. `number` is the slot's
-        number where no configuration says it; None takes the number that the first answer has. Nothing is sent yet,
-        and no connection made. Raises ConfigFault where the configuration isn't one, or the slot has no control
-        port."""
+        number where no configuration says it; None takes the number that the first answer has. With `named`, values
+        are returned by names, and else as the datasets have them, which is as lists unless they are made otherwise.
+        Nothing is sent yet, and no connection made. Raises ConfigFault where the configuration isn't one, or the slot
+        has no control port."""
         terms = Terms(None if number is None else whole("number", number, 0, SLOTS_MOST - 1),
                       whole("answer_us", answer_us, 1), whole("tries", tries, 1), restore,
                       None if lease_us is None else whole("lease_us", lease_us, 1, LEASE_MOST))
@@ -98,16 +100,17 @@ class Slot(ProcessCalls, MessageCalls, Hearing):
                 terms.number = slot
         if where.folder is not None:
             terms.path = socket_path("controls", where.folder, where.port)
-        super().__init__(terms, Datasets({}) if datasets is None else typed("datasets", datasets, Datasets, "Datasets"),
-                         reset)
+        known = Datasets({}) if datasets is None else typed("datasets", datasets, Datasets, "Datasets")
+        super().__init__(terms, known.by_names() if named else known, reset)
 
     @classmethod
     def look(cls, config: str | os.PathLike[str], slot: int, /, *, datasets: Datasets | None = None,
-             answer_us: int = 200_000, tries: int = 3, number: int | None = None) -> Self:
+             answer_us: int = 200_000, tries: int = 3, number: int | None = None, named: bool = False) -> Self:
         """A client that only looks at the objects of another one, over UDP: it sends no `reset`. After each of its
         calls, and of its question before them, the indications come to it, until the other one makes its next call. At
         a control socket no one can look beside the application; there `Operator.slots` says what a slot has."""
-        return cls(config, slot, datasets=datasets, answer_us=answer_us, tries=tries, reset=False, number=number)
+        return cls(config, slot, datasets=datasets, answer_us=answer_us, tries=tries, reset=False, number=number,
+                   named=named)
 
     def __enter__(self) -> Slot:
         return self

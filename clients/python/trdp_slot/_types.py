@@ -63,6 +63,7 @@ REAL_TYPES: Mapping[int | str, str] = {12: "REAL32", 13: "REAL64", "REAL32": "RE
 COUNT_TYPES = ("UINT8", "UINT16", "UINT32")
 DEPTH_MOST = 5
 FIRST_DATASET = 31
+TICKS = 65536  # of a TIMEDATE48, in a second
 
 
 class Element(NamedTuple):
@@ -84,3 +85,8 @@ class Element(NamedTuple):
 def is_count(elements: Sequence[Element], index: int) -> bool:
     """Whether an element counts the array behind it."""
     return index + 1 < len(elements) and elements[index + 1].size == 0
+
+
+def nameless(elements: Sequence[Element]) -> list[int]:
+    """Which elements have no name and are no counts. A dataset that has one is no dict."""
+    return [index for index, it in enumerate(elements) if it.name is None and not is_count(elements, index)]

@@ -50,7 +50,7 @@ class Names(unittest.TestCase):
             Element("UINT8", 1, "count"), Element("UINT8", 0, "state"),
             Element("UINT32", 1, "speed", "REAL32", "km/h", 3.6, -1.0), Element("UINT64", 2, None, "REAL64"),
             Element("BITSET8", 1, "Türe 1/2", "ANTIVALENT8"), Element("BITSET8", 1, None, None, "", 1.0, 0.0)))
-        self.assertEqual([is_count(of.elements[5002], it) for it in range(6)], [True, False, False, False, False, False])
+        self.assertEqual([it for it in range(6) if is_count(of.elements[5002], it)], [0])
         self.assertEqual(of.dataset_names, {5002: "status of the doors"})
         self.assertEqual(of.slot_names, ("doors", None))
         self.assertEqual(of.telegrams, {
@@ -68,7 +68,8 @@ class Names(unittest.TestCase):
              "dataset 40, element 0: unit is 'a\\tb', and no text without control characters"),
             ("{ type = 8, name = 'a' }, { type = 9 }, { type = 9, name = 'a' }",
              "dataset 40, element 2: an earlier element has the name 'a', too"),
-            ("{ type = 10, as = 'REAL' }", "dataset 40, element 0: as is 'REAL', and none of REAL32, REAL64, ANTIVALENT8"),
+            ("{ type = 10, as = 'REAL' }",
+             "dataset 40, element 0: as is 'REAL', and none of REAL32, REAL64, ANTIVALENT8"),
             ("{ type = 10, as = 12 }", "dataset 40, element 0: as is 12, and none of REAL32, REAL64, ANTIVALENT8"),
             ("{ type = 11, as = 'REAL32' }", "dataset 40, element 0: REAL32 stands over UINT32, and not over UINT64"),
             ("{ type = 'BOOL8', as = 'ANTIVALENT8' }",
