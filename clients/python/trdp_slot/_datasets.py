@@ -186,7 +186,10 @@ class Datasets:
 
     def of_message(self, told: Notified | Asked | Replied, *, into: type[Any] | None = None) -> Any:
         """The value of a message that the node reports, by the dataset of its comId; its bytes where no table
-        `[[telegram]]` says one. The node doesn't look at it: raises DoesNotFit where it is none."""
+        `[[telegram]]` says one. The node doesn't look at it: raises DoesNotFit where it is none, and TypeError where
+        an indication is no message."""
+        if not isinstance(told, (Notified, Asked, Replied)):
+            raise TypeError(f"{shown(told)} is no message")
         return self.unpack(self.com_ids.get(told.com_id, 0), told.payload, into=into)
 
     @staticmethod

@@ -11,6 +11,7 @@ from collections.abc import Callable, Mapping, Sequence
 from typing import Any
 
 from ._items import Packs, item_of
+from ._limits import MD_MOST
 from ._misfits import Misfit, Place
 from ._records import fields_of, is_record
 from ._shown import shown
@@ -69,6 +70,8 @@ class Text(Array):
         most = (self._size or count) * self._width
         if len(data) > most:
             raise Misfit(f"{shown(entry)} has {len(data)} bytes, and at most {most} are there")
+        if most > MD_MOST:
+            raise Misfit(f"it has {most} bytes, and at most {MD_MOST} are carried")
         return data.ljust(most, b"\0")
 
     def count(self, entry: Any) -> int:

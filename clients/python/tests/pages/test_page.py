@@ -115,6 +115,7 @@ class Pages(unittest.TestCase):
                 self.prints(step)
         self.programs()
         self.look()
+        self.named()
         self.programs_again()
         doors = self.top / "doors.toml"
         doors.write_text(doors.read_text() + self.block("[[telegram]]").code)
@@ -132,6 +133,13 @@ class Pages(unittest.TestCase):
         self.write("look.py", "from trdp_slot import Slot\n\nwith Slot.look(")
         looking, = self.steps("$ PYTHONPATH=clients/python python3 look.py")
         self.prints_at_last(looking)
+
+    def named(self) -> None:
+        """The program with values by names, which leaves the publisher with the value of the first one."""
+        self.write("names.toml", "[[dataset]]\nid = 5002\nname = ")
+        self.write("named.py", "from trdp_slot import Datasets, Slot\n")
+        named, = self.steps("$ PYTHONPATH=clients/python python3 named.py")
+        self.prints_at_last(named)
 
     def programs_again(self) -> None:
         """The first two, at this run or at their second one."""

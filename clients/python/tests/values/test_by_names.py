@@ -11,7 +11,7 @@ from collections.abc import Callable
 from typing import Any
 
 from test_values import datasets
-from trdp_slot import Asked, Datasets, DoesNotFit, Element, Handle, Notified, TimeDate48, TimeDate64
+from trdp_slot import Asked, Datasets, DoesNotFit, Element, Handle, Notified, Silent, TimeDate48, TimeDate64
 
 DOORS = datasets("""
 [[dataset]]
@@ -130,6 +130,9 @@ class ByNames(unittest.TestCase):
         self.assertEqual(of.unpack(40, bytes.fromhex("03006100000062")), {"count": 3, "text": "a"})
         with self.assertRaisesRegex(DoesNotFit, "^dataset 40, text: 'ab' has 4 bytes, and at most 2 are there$"):
             of.pack(40, {"text": "ab", "count": 1})
+        of = datasets("[[dataset]]\nid = 40\nelement = [{ type = 10 }, { type = 2, size = 0, name = 'text' }]")
+        with self.assertRaisesRegex(DoesNotFit, "^dataset 40, text: it has 4294967295 bytes, and at most 65388 are "):
+            of.pack(40, [0xFFFFFFFF, "ab"])
 
     def test_a_dataset_without_all_names_is_a_list(self) -> None:
         """Its value by names is a list, in which a dataset that has all names is a dict."""
@@ -218,16 +221,15 @@ class Meanings(unittest.TestCase):
         asked = Asked(listener, listener, uuid.UUID(int=1), "10.0.0.2:17225", 300, "", "", b"\x02")
         with self.assertRaisesRegex(DoesNotFit, "^dataset 41, broken: 0 bytes are left, and 2 of BOOL8 have 2$"):
             DOORS.of_message(asked)
+        no_message: Any = Silent(listener)
+        self.assertRaisesRegex(TypeError, "^Silent.handle=<listener 1>. is no message$", DOORS.of_message, no_message)
 
 
 def seconds(act: Callable[[], object]) -> float:
-    """How long something takes at least, in many tries."""
-    least = math.inf
-    for _ in range(500):
-        begin = time.perf_counter()
-        act()
-        least = min(least, time.perf_counter() - begin)
-    return least
+    """How long something takes."""
+    begin = time.perf_counter()
+    act()
+    return time.perf_counter() - begin
 
 
 class Time(unittest.TestCase):
@@ -242,5 +244,7 @@ class Time(unittest.TestCase):
         in_list = [*[1] * 23, [1] * 4]
         by_names = {**{f"signal_{index}": 1 for index in range(23)}, "inner": {f"signal_{it}": 1 for it in range(4)}}
         self.assertEqual(of.pack(41, in_list), of.pack(41, by_names))
-        ratio = seconds(lambda: of.pack(41, by_names)) / seconds(lambda: of.pack(41, in_list))
-        self.assertLess(ratio, 1.5)
+        # The least of many tries is that of a machine which does nothing else, and both are tried in turn.
+        tries = [(seconds(lambda: of.pack(41, by_names)), seconds(lambda: of.pack(41, in_list))) for _ in range(1000)]
+        named, listed = map(min, zip(*tries))
+        self.assertLess(named / listed, 1.5)
