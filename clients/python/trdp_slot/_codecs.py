@@ -40,12 +40,12 @@ class Codecs:
         """What makes a dict, or a list where an element has no name."""
         elements = self._elements[number]
         names = [(it.name, index) for index, it in enumerate(elements) if it.name is not None]
+        is_list = bool(nameless(elements))
 
-        def build(entries: list[Any]) -> dict[str, Any]:
-            return {name: entries[index] for name, index in names}
+        def build(entries: list[Any]) -> Any:
+            return entries if is_list else {name: entries[index] for name, index in names}
 
-        inner = self._inner(number, self.by_names)
-        return Unpacker(elements, lambda element: False, inner, list if nameless(elements) else build)
+        return Unpacker(elements, lambda element: False, self._inner(number, self.by_names), build)
 
     def _by_fields(self, number: int, kind: type[Any]) -> Unpacker:
         """What makes an instance of a dataclass. Raises Misfit where it is none of that dataset."""

@@ -8,7 +8,7 @@ from __future__ import annotations
 
 import functools
 import struct
-from collections.abc import Mapping, Sequence
+from collections.abc import Callable, Mapping, Sequence
 from typing import Any
 
 from ._misfits import Misfit
@@ -19,6 +19,8 @@ from ._types import BASIC_TYPES, Number, Time
 # What numbers mean: of an ANTIVALENT8 it is our reading, which no one has checked against the standard.
 MEANINGS: Mapping[str, Mapping[int, bool]] = {"BOOL8": {0: False, 1: True}, "ANTIVALENT8": {1: False, 2: True}}
 REAL_CODES = {"REAL32": "f", "REAL64": "d"}
+PAIRS: Mapping[str, Callable[[Any], tuple[int, int]]] = {
+    "TIMEDATE48": TimeDate48._make, "TIMEDATE64": TimeDate64._make}
 
 
 class Packs:
@@ -93,7 +95,7 @@ class MeantItem(NumberItem):
 
     def __init__(self, kind: str, number: Number, meanings: Mapping[int, bool], is_raw: bool) -> None:
         super().__init__(kind, number)
-        self._meanings = {} if is_raw else meanings
+        self._meanings: Mapping[int, bool] = {} if is_raw else meanings
         self._numbers = {meaning: number for number, meaning in meanings.items()}
 
     def pack(self, value: Any) -> bytes:
@@ -143,7 +145,7 @@ class PairItem(Item):
     def __init__(self, kind: str, time: Time) -> None:
         super().__init__(kind, time.code)
         self._highest = time.highest
-        self._make = {"TIMEDATE48": TimeDate48, "TIMEDATE64": TimeDate64}[kind]._make
+        self._make = PAIRS[kind]
 
     def pack(self, value: Any) -> bytes:
         if not isinstance(value, (tuple, list)) or len(value) != 2:

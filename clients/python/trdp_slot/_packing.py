@@ -138,6 +138,7 @@ class Packer(Packs):
         self._by_fields: dict[type, Picker] = {}
 
     def pack(self, value: Any) -> bytes:
+        entries: Sequence[Any]
         if isinstance(value, (list, tuple)):
             if len(value) != len(self._elements):
                 raise Misfit(f"the list has {len(value)} entries, and not {len(self._elements)}")
@@ -147,7 +148,7 @@ class Packer(Packs):
         else:
             steps, entries = self._by_keys, self._fielded(value)
         parts = []
-        count = None
+        count: Any = None
         for place, step, entry in zip(self._places, steps, entries):
             try:
                 parts.append(step.pack(entry, count))

@@ -30,7 +30,7 @@ no text.
 from __future__ import annotations
 
 from collections.abc import Sequence
-from typing import Any
+from typing import Any, TypeGuard
 
 from ._misfits import Misfit
 from ._shown import shown
@@ -42,7 +42,7 @@ def is_record(value: object) -> bool:
     return is_record_class(type(value))
 
 
-def is_record_class(kind: object) -> bool:
+def is_record_class(kind: object) -> TypeGuard[type[Any]]:
     """Whether this is such a class."""
     return isinstance(kind, type) and isinstance(getattr(kind, "trdp_dataset", None), int)
 
