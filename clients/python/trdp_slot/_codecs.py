@@ -21,7 +21,7 @@ class Codecs:
         self.packer = functools.cache(self._packer)
         self.lists = functools.cache(self._lists)
         self.by_names = functools.cache(self._by_names)
-        self.by_fields = functools.cache(self._by_fields)
+        self._records: dict[tuple[int, type[Any]], Unpacker] = {}
         self.readings = functools.cache(self._readings)
 
     def __reduce__(self) -> tuple[type[Codecs], tuple[Mapping[int, Sequence[Element]]]]:
@@ -47,8 +47,13 @@ class Codecs:
 
         return Unpacker(elements, lambda element: False, self._inner(number, self.by_names), build)
 
-    def _by_fields(self, number: int, kind: type[Any]) -> Unpacker:
+    def by_fields(self, number: int, kind: type[Any]) -> Unpacker:
         """What makes an instance of a dataclass. Raises Misfit where it is none of that dataset."""
+        if (number, kind) not in self._records:
+            self._records[number, kind] = self._by_fields(number, kind)
+        return self._records[number, kind]
+
+    def _by_fields(self, number: int, kind: type[Any]) -> Unpacker:
         elements = self._elements[number]
         fields = fields_of(kind, number, elements)
         indexes = [(field, index) for index, field in enumerate(fields) if field is not None]

@@ -7,7 +7,7 @@ from typing import NamedTuple
 class Place(NamedTuple):
     """An element of a dataset, by its position from 0 and its name."""
 
-    index: int
+    position: int
     name: str | None
 
 
@@ -33,7 +33,7 @@ class Misfit(Exception):
             if isinstance(place, int):
                 way += f"[{place}]" if is_name else f", item {place}"
             elif place.name is None:
-                way, is_name = f"{way}, element {place.index}", False
+                way, is_name = f"{way}, element {place.position}", False
             else:
                 way, is_name = way + (f".{place.name}" if is_name else f", {place.name}"), True
         return f"{way}: {self._why}"

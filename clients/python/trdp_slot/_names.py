@@ -1,8 +1,8 @@
 """What a configuration says of datasets, elements, slots and telegrams for programs and people: names and units.
 
-The node ignores these keys: at an element `name`, `unit`, `scale`, `offset` and `as`, at a dataset and a slot `name`, and
-all tables `[[telegram]]`. `trdpd check` warns of those that are wrong, and here each of these is a ConfigFault. A name or
-a unit is a text without control characters, and a name isn't empty.
+The node ignores these keys: at an element `name`, `unit`, `scale`, `offset` and `as`, at a dataset and a slot `name`,
+and all tables `[[telegram]]`. `trdpd check` warns of those that are wrong, and here each of these is a ConfigFault. A
+name or a unit is a text without control characters, and a name isn't empty.
 """
 from __future__ import annotations
 

@@ -27,7 +27,11 @@ class Named(Case):
 
     def setUp(self) -> None:
         super().setUp()
-        self.say = lambda line: ["0 value Valid 7 01"] if line == "get 2" else self.node.answer(line)
+        self.say = self.say_one
+
+    def say_one(self, line: str) -> list[str]:
+        """What the node answers; the subscription of the handle 2 shows 1."""
+        return ["0 value Valid 7 01"] if line == "get 2" else self.node.answer(line)
 
     def test_calls_that_take_a_value(self) -> None:
         """Each takes a dict by names, and an instance of a dataclass, which knows its dataset."""

@@ -242,9 +242,9 @@ class Time(unittest.TestCase):
         outer = [*(Element(kinds[index % 4], 1, f"signal_{index}") for index in range(23)), Element(40, 1, "inner")]
         of = Datasets({40: inner, 41: outer})
         in_list = [*[1] * 23, [1] * 4]
-        by_names = {**{f"signal_{index}": 1 for index in range(23)}, "inner": {f"signal_{it}": 1 for it in range(4)}}
+        by_names: dict[str, Any] = {f"signal_{index}": 1 for index in range(23)}
+        by_names["inner"] = {f"signal_{index}": 1 for index in range(4)}
         self.assertEqual(of.pack(41, in_list), of.pack(41, by_names))
         # The least of many tries is that of a machine which does nothing else, and both are tried in turn.
         tries = [(seconds(lambda: of.pack(41, by_names)), seconds(lambda: of.pack(41, in_list))) for _ in range(1000)]
-        named, listed = map(min, zip(*tries))
-        self.assertLess(named / listed, 1.5)
+        self.assertLess(min(named for named, _ in tries) / min(listed for _, listed in tries), 1.5)

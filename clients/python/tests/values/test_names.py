@@ -4,6 +4,7 @@ from __future__ import annotations
 import pathlib
 import tempfile
 import unittest
+from collections.abc import Callable
 
 from test_values import datasets
 from trdp_slot import ConfigFault, Datasets, Element, Slot, TelegramTable, is_count
@@ -108,7 +109,8 @@ class Names(unittest.TestCase):
         with tempfile.TemporaryDirectory() as folder:
             path = pathlib.Path(folder) / "node.toml"
             path.write_text(NAMED.replace('name = "state"', 'name = "count"'))
-            for read in (lambda: Datasets.from_toml(path), lambda: Slot(path, 0)):
+            reads: list[Callable[[], object]] = [lambda: Datasets.from_toml(path), lambda: Slot(path, 0)]
+            for read in reads:
                 with self.assertRaises(ConfigFault) as caught:
                     read()
                 said = f"{path}: dataset 5002, element 1: an earlier element has the name 'count', too"

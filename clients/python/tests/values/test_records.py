@@ -2,7 +2,7 @@
 from __future__ import annotations
 
 import unittest
-from collections.abc import Mapping
+from collections.abc import Callable, Mapping
 from dataclasses import dataclass, field
 from typing import Any, ClassVar
 
@@ -89,7 +89,9 @@ class Records(unittest.TestCase):
             (changed({"state": "state", "class_": "class"}, {}), "doors: Other has no field of element 3"),
             (changed({"state": "state", "element_3": 3}, {}), "doors: Other has no field of element 'class'"),
         ]:
-            for act in (lambda: DOORS.pack(40, kind.__new__(kind)), lambda: DOORS.unpack(40, DATA, into=kind)):
+            acts: list[Callable[[], object]] = [
+                lambda: DOORS.pack(40, object.__new__(kind)), lambda: DOORS.unpack(40, DATA, into=kind)]
+            for act in acts:
                 with self.subTest(said), self.assertRaises(DoesNotFit) as caught:
                     act()
                 self.assertEqual(str(caught.exception), said)
