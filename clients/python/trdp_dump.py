@@ -10,10 +10,14 @@ A line is
 
     Pd comId=2101 counter=46 counts=0,0 from=127.0.0.1:17224 length=7 value=[4, [0, 0, 0, 0], 0]
 
-Where no TOML file names the comId's dataset, or the bytes are no value of it, `data=04000000000000` is in place
-of the value. A pull request has `replyComId` and `replyAddress` too, a message `session`, `status`, `time` in
-microseconds and `uris`, source and destination. A datagram that is no telegram is `fault=Fcs from=.. length=..`, by
-the names of its first fault: Short, TooLong, Fcs, Version, Kind, Length.
+If no TOML file names the comId's dataset, or the bytes are no value of it, `data=04000000000000` is in place of the
+value. If the file has names and units, they are shown, with the raw number in brackets behind one that is scaled:
+
+    length=3 telegram=drive dataset=status value={speed: 12.5 km/h (125), locked: True (2)}
+
+A pull request has `replyComId` and `replyAddress` too, a message `session`, `status`, `time` in microseconds and
+`uris`, source and destination. A datagram that is no telegram is `fault=Fcs from=.. length=..`, by the names of its
+first fault: Short, TooLong, Fcs, Version, Kind, Length.
 
 The file is a node's configuration, or any other one, with its `[[dataset]]` tables, and beside them one
 
@@ -81,13 +85,23 @@ def uri_word(data: bytes) -> str:
     return data.decode() if is_plain else repr(data).replace(" ", "\\x20")
 
 
-def payload_word(telegram: Telegram, datasets: Datasets) -> str:
-    """The payload: a value where the comId's dataset is known, else its bytes."""
-    number = datasets.com_ids.get(telegram.com_id, 0)
-    if number:
+def payload_words(telegram: Telegram, datasets: Datasets) -> Iterator[str]:
+    """The names of the telegram and of its dataset, if there are any, and the payload: a value where the comId's
+    dataset is known, else its bytes."""
+    table = datasets.telegrams.get(telegram.com_id)
+    if table and table.name:
+        yield f"telegram={trdp_words.name_word(table.name)}"
+    if table and table.dataset in datasets.dataset_names:
+        yield f"dataset={trdp_words.name_word(datasets.dataset_names[table.dataset])}"
+    yield payload_word(telegram.payload, table.dataset if table else 0, datasets)
+
+
+def payload_word(payload: bytes, dataset: int, datasets: Datasets) -> str:
+    """A payload, as a value of that dataset where it is one."""
+    if dataset:
         with contextlib.suppress(DoesNotFit):
-            return f"value={datasets.unpack(number, telegram.payload)}"
-    return f"data={hex_word(telegram.payload)}"
+            return f"value={trdp_words.printable(datasets.reading(dataset, payload))}"
+    return f"data={hex_word(payload)}"
 
 
 def telegram_line(telegram: Telegram, source: tuple[str, int], datasets: Datasets) -> str:
@@ -100,7 +114,7 @@ def telegram_line(telegram: Telegram, source: tuple[str, int], datasets: Dataset
     if telegram.is_message:
         uris = f"uris={uri_word(telegram.source_uri)}>{uri_word(telegram.dest_uri)}"
         words += [f"session={telegram.session}", f"status={telegram.status}", f"time={telegram.time_us}", uris]
-    return " ".join([*words, payload_word(telegram, datasets)])
+    return " ".join([*words, *payload_words(telegram, datasets)])
 
 
 class Filter(NamedTuple):
@@ -345,6 +359,7 @@ def print_all(asked: argparse.Namespace, taker: Taker, datasets: Datasets, file:
 
 def dump(asked: argparse.Namespace, stack: contextlib.ExitStack) -> None:
     """Prints what comes, and then how much couldn't be read. What is opened is closed with the stack."""
+    trdp_words.escape_output()
     datasets = trdp_words.datasets_of(asked.toml) if asked.toml else Datasets({})
     where = where_of(asked)
     taker = Beside(where, stack) if asked.beside else Ports(where, stack)

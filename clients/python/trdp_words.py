@@ -1,4 +1,4 @@
-"""Words of command lines: what each can be, and one sentence for what can't be meant.
+"""Words of command lines: what each can be, and one sentence for what can't be meant. And how names are printed.
 
 Used by trdp_dump.py, trdp_lua.py, trdp_send.py and examples/control/client.py.
 """
@@ -6,6 +6,7 @@ from __future__ import annotations
 
 import argparse
 import contextlib
+import io
 import ipaddress
 import math
 import os
@@ -123,6 +124,17 @@ def shown(text: str) -> str:
     return repr(text if len(text) <= 60 else text[:57] + "...")
 
 
+def printable(text: str) -> str:
+    """A text, in which what can't be printed is as Python writes it: no control character gets to a terminal."""
+    return "".join(it if it.isprintable() else repr(it)[1:-1] for it in text)
+
+
+def name_word(name: str) -> str:
+    """A name as one word of a line: as Python writes a text if it has a space, a quote or what can't be printed."""
+    is_plain = name.isprintable() and not any(it in " '\"\\" for it in name)
+    return name if is_plain else repr(name).replace(" ", "\\x20")
+
+
 def sentence(fault: OSError | ValueError) -> str:
     """What went wrong, in words, with the file or the place where that is known."""
     if isinstance(fault, OSError) and fault.strerror:
@@ -134,6 +146,12 @@ def name_of(file: str) -> str:
     """How a tool calls itself: by its file's name, or by that of the command which installing it makes."""
     command = file.removesuffix(".py").replace("_", "-")
     return command if os.path.basename(sys.argv[0]) == command else file
+
+
+def escape_output() -> None:
+    """Has standard output escape the letters that its encoding lacks: else they are a fault."""
+    if isinstance(sys.stdout, io.TextIOWrapper):
+        sys.stdout.reconfigure(errors="backslashreplace")
 
 
 def drop_output() -> None:
