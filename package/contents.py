@@ -145,7 +145,8 @@ def client_files(number: str) -> Iterator[File]:
         yield File(f"{MODULES}/{path.stem}/py.typed", b"")
     for tool, module in TOOLS.items():
         yield File(f"usr/bin/{tool}", filled("tool", MODULE=module).encode(), is_program=True)
-    yield File(f"{PLUGINS}/trdp.lua", text_of("wireshark/trdp.lua").encode())
+    for name in ("trdp.lua", "trdp_values.lua"):
+        yield File(f"{PLUGINS}/{name}", text_of(f"wireshark/{name}").encode())
 
 
 def page_files() -> Iterator[File]:

@@ -4,15 +4,15 @@
 --     tshark -X lua_script:wireshark/trdp.lua -r capture.pcapng
 --
 -- Other ports are named by  -d udp.port==17300,trdp  (in Wireshark: Analyze, Decode As). Wireshark reads the file at its start
--- where it lies in the folder of personal Lua plugins (Help, About Wireshark, Folders).
+-- if it is in the folder of personal Lua plugins (Help, About Wireshark, Folders). It needs trdp_values.lua in the same folder.
 --
 -- A payload is shown as data. Where a second script says which dataset the payload of a comId is, it is shown as its value:
 --
 --     clients/python/trdp_lua.py node.toml > datasets.lua
 --     tshark -X lua_script:wireshark/trdp.lua -X lua_script:datasets.lua -r capture.pcapng
---
--- That script makes one global table, trdp_datasets, of which `com_ids` has the dataset of each comId, and `datasets` the
--- elements of each dataset: the name of a basic type or the number of a dataset, and the size.
+
+-- How a payload is read as a value of its dataset.
+local values = require("trdp_values")
 
 local trdp = Proto("trdp", "Train Real-time Data Protocol")
 
@@ -59,6 +59,8 @@ local fields = {
     padding = ProtoField.bytes("trdp.padding", "padding"),
     dataset = ProtoField.uint32("trdp.dataset", "dataset"),
     value = ProtoField.string("trdp.value", "value"),
+    element = values.fields.element,
+    number = values.fields.number,
 }
 trdp.fields = fields
 
@@ -129,17 +131,23 @@ local function add_repeat(buffer, tree)
     return string.format(" [sent again, %s time]", ({ "1st", "2nd", "3rd" })[count] or count .. "th")
 end
 
+-- Adds a field of a header.
+local function add_field(name, range, tree)
+    if name == "sourceURI" or name == "destinationURI" then
+        -- A URI ends at its first zero byte.
+        tree:add(fields[name], range, range:raw():match("^[^%z]*"))
+    elseif name == "comId" then
+        tree:add(fields[name], range):append_text(values.name_behind("telegram_names", range:uint()))
+    else
+        tree:add(fields[name], range)
+    end
+end
+
 -- Adds fields from an offset on, and answers the offset behind them.
 local function add_fields(list, buffer, offset, tree)
     for _, entry in ipairs(list) do
         local name, length = entry[1], entry[2]
-        local range = buffer(offset, length)
-        if name == "sourceURI" or name == "destinationURI" then
-            -- A URI ends at its first zero byte.
-            tree:add(fields[name], range, range:raw():match("^[^%z]*"))
-        else
-            tree:add(fields[name], range)
-        end
+        add_field(name, buffer(offset, length), tree)
         offset = offset + length
     end
     return offset
@@ -182,124 +190,21 @@ local function add_faults(buffer, header, port, tree)
     end
 end
 
--- The text of a number, and of a pair of numbers, as clients/python writes them.
-local function unsigned(range)
-    return range:len() == 8 and tostring(range:uint64()) or string.format("%d", range:uint())
-end
-
-local function signed(range)
-    return range:len() == 8 and tostring(range:int64()) or string.format("%d", range:int())
-end
-
-local function pair(range)
-    return string.format("(%d, %d)", range:range(0, 4):uint(), range:range(4, range:len() - 4):uint())
-end
-
--- The basic types: how many bytes a value has, and its text.
-local BASIC = {
-    BOOL8 = { 1, unsigned }, BITSET8 = { 1, unsigned }, CHAR8 = { 1, unsigned }, UTF16 = { 2, unsigned },
-    INT8 = { 1, signed }, INT16 = { 2, signed }, INT32 = { 4, signed }, INT64 = { 8, signed },
-    UINT8 = { 1, unsigned }, UINT16 = { 2, unsigned }, UINT32 = { 4, unsigned }, UINT64 = { 8, unsigned },
-    TIMEDATE32 = { 4, unsigned }, TIMEDATE48 = { 6, pair }, TIMEDATE64 = { 8, pair },
-}
-
--- A value is a table with its text, the offset of its first byte and the one behind its last, and, of a list, its values in
--- order. Each function answers nil where there are too few bytes.
-local read_dataset
-
-local function read_item(kind, buffer, offset)
-    local basic = BASIC[kind]
-    if not basic then
-        return read_dataset(kind, buffer, offset)
-    end
-    local length, text = basic[1], basic[2]
-    if offset + length > buffer:len() then
-        return nil
-    end
-    return { text = text(buffer(offset, length)), offset = offset, behind = offset + length }
-end
-
-local function list_of(items, offset, behind)
-    local texts = {}
-    for i, item in ipairs(items) do
-        texts[i] = item.text
-    end
-    items.text, items.offset, items.behind = "[" .. table.concat(texts, ", ") .. "]", offset, behind
-    return items
-end
-
-local function read_array(kind, count, buffer, offset)
-    local items, behind = {}, offset
-    for i = 1, count do
-        local item = read_item(kind, buffer, behind)
-        if not item then
-            return nil
-        end
-        items[i], behind = item, item.behind
-    end
-    return list_of(items, offset, behind)
-end
-
-read_dataset = function(id, buffer, offset)
-    local entries, behind, count = {}, offset, 0
-    for i, element in ipairs(_G.trdp_datasets.datasets[id]) do
-        local kind, size = element[1], element[2]
-        local entry
-        if size == 1 then
-            entry = read_item(kind, buffer, behind)
-        else
-            entry = read_array(kind, size == 0 and count or size, buffer, behind)
-        end
-        if not entry then
-            return nil
-        end
-        count = size == 1 and tonumber(entry.text) or 0
-        entries[i], behind = entry, entry.behind
-    end
-    return list_of(entries, offset, behind)
-end
-
-local add_elements
-
--- Adds a value: a line, and below it those of the datasets in it.
-local function add_value(id, label, value, buffer, tree)
-    local length = value.behind - value.offset
-    local range = length > 0 and buffer(value.offset, length) or buffer()
-    local branch = tree:add(range, label .. ": " .. value.text)
-    if BASIC[id] then
-        return
-    end
-    add_elements(id, value, buffer, branch)
-end
-
-add_elements = function(id, value, buffer, tree)
-    for i, element in ipairs(_G.trdp_datasets.datasets[id]) do
-        local kind, size = element[1], element[2]
-        local name = BASIC[kind] and kind or "dataset " .. kind
-        local label = string.format("element %d, %s", i - 1, name)
-        if size == 1 or BASIC[kind] then
-            add_value(kind, size == 1 and label or label .. " array", value[i], buffer, tree)
-        else
-            for j, item in ipairs(value[i]) do
-                add_value(kind, string.format("%s, item %d", label, j - 1), item, buffer, tree)
-            end
-        end
-    end
-end
-
 -- Adds a payload as a value of its comId's dataset, where a script says which that is. Answers its text; nil where it has none.
 local function add_payload(com_id, buffer, tree)
     local id = _G.trdp_datasets and _G.trdp_datasets.com_ids[com_id]
     if not id then
         return nil
     end
-    local value = read_dataset(id, buffer, 0)
-    if not value or value.behind < buffer:len() then
-        tree:add(fields.dataset, id):add_proto_expert_info(faults.value)
+    local dataset = tree:add(fields.dataset, id)
+    dataset:append_text(values.name_behind("dataset_names", id))
+    local value = values.read(id, buffer)
+    if not value then
+        dataset:add_proto_expert_info(faults.value)
         return nil
     end
-    tree:add(fields.dataset, id):set_generated()
-    add_elements(id, value, buffer, tree:add(fields.value, buffer(), value.text))
+    dataset:set_generated()
+    values.add(id, value, buffer, tree:add(fields.value, buffer(), value.text))
     return value.text
 end
 
@@ -323,7 +228,11 @@ local function add_dataset(buffer, header, pinfo, tree, root)
     if not text then
         return string.format("%d bytes", declared)
     end
-    return #text > 200 and text:sub(1, 197) .. "..." or text
+    if #text > 200 then
+        -- No part of a character is left at the end.
+        text = text:sub(1, 197):gsub("[\192-\255][\128-\191]*$", "") .. "..."
+    end
+    return text
 end
 
 -- Shows a datagram that has no whole header, or none that was captured.
@@ -355,8 +264,10 @@ function trdp.dissector(buffer, pinfo, root)
     tree:set_len(header)
     local dataset = add_dataset(buffer, header, pinfo, tree, root)
     local kind = MSG_TYPES[buffer(6, 2):uint()] or "unknown msgType"
-    pinfo.cols.info = string.format("%s, comId %d, sequenceCounter %d, %s%s%s", kind, buffer(8, 4):uint(),
-        buffer(0, 4):uint(), dataset, repeated, is_right and "" or " [headerFcs is wrong]")
+    local com_id = buffer(8, 4):uint()
+    pinfo.cols.info = string.format("%s, comId %d%s, sequenceCounter %d, %s%s%s", kind, com_id,
+        values.name_behind("telegram_names", com_id), buffer(0, 4):uint(), dataset, repeated,
+        is_right and "" or " [headerFcs is wrong]")
 end
 
 local ports = DissectorTable.get("udp.port")

@@ -10,17 +10,18 @@ The file is a node's configuration, or any other one, with its `[[dataset]]` tab
     com_id = 2101
     dataset = 5002
 
-for each comId. The node ignores these.
+for each comId. The node ignores these. If the file has names, units and scales, they are shown, too.
 """
 from __future__ import annotations
 
 import argparse
 import functools
 import sys
+from collections.abc import Iterable, Mapping
 from typing import NoReturn
 
 import trdp_words
-from trdp_slot import Datasets, Element
+from trdp_slot import Datasets, Element, decimals_of
 
 NAME = trdp_words.name_of("trdp_lua.py")
 HEAD = """\
@@ -28,20 +29,53 @@ HEAD = """\
 """
 
 
+def lua_text(text: str) -> str:
+    """A text in Lua. All bytes but plain letters and signs are written by their numbers, so no name ends the text."""
+    data = trdp_words.printable(text).encode()
+    return '"' + "".join(f"\\{it:03}" if it > 0x7E or it in b'"\\' else chr(it) for it in data) + '"'
+
+
 def element_table(element: Element) -> str:
-    """An element in Lua: the name of a basic type or the number of a dataset, and the size."""
-    kind = element.type if isinstance(element.type, int) else f'"{element.type}"'
-    return f"{{ {kind}, {element.size} }}"
+    """An element in Lua: the name of a basic type or the number of a dataset, the size, and what people read."""
+    words = [kind_word(element), str(element.size)]
+    if element.name:
+        words.append(f"name = {lua_text(element.name)}")
+    if element.unit:
+        words.append(f"unit = {lua_text(element.unit)}")
+    if (element.scale, element.offset) != (1, 0):
+        decimals = decimals_of(element)
+        words += [f"scale = {element.scale}", f"offset = {element.offset}"]
+        words += [] if decimals is None else [f"decimals = {decimals}"]
+    return f"{{ {', '.join(words)} }}"
+
+
+def kind_word(element: Element) -> str:
+    """The type of an element in Lua."""
+    if isinstance(element.type, int):
+        return str(element.type)
+    # Without a name or another key a BITSET8 is called BOOL8, as ever: both have the number 1.
+    is_plain = element == Element("BITSET8", element.size)
+    return lua_text("BOOL8" if is_plain else element.as_ or element.type)
+
+
+def section(name: str, lines: Iterable[str]) -> list[str]:
+    """The lines of a table in the global one."""
+    return [f"    {name} = {{", *(f"        {it}," for it in lines), "    },"]
+
+
+def names_section(name: str, names: Mapping[int, str]) -> list[str]:
+    """A section of names by numbers; none where there are no names."""
+    return section(name, (f"[{number}] = {lua_text(it)}" for number, it in names.items())) if names else []
 
 
 def lua_table(datasets: Datasets) -> str:
-    """The script: a global table of the comIds that have a dataset, and of all datasets."""
-    lines = [HEAD + "_G.trdp_datasets = {", "    com_ids = {"]
-    lines += [f"        [{com_id}] = {number}," for com_id, number in sorted(datasets.com_ids.items()) if number]
-    lines += ["    },", "    datasets = {"]
-    for number, elements in datasets.elements.items():
-        lines.append(f"        [{number}] = {{ {', '.join(map(element_table, elements))} }},")
-    return "\n".join([*lines, "    },", "}", ""])
+    """The script: a global table of the comIds that have a dataset, of all datasets, and of the names of both."""
+    com_ids = [f"[{com_id}] = {number}" for com_id, number in sorted(datasets.com_ids.items()) if number]
+    elements = [f"[{number}] = {{ {', '.join(map(element_table, of))} }}" for number, of in datasets.elements.items()]
+    telegrams = {it.com_id: it.name for it in datasets.telegrams.values() if it.name}
+    lines = [HEAD + "_G.trdp_datasets = {", *section("com_ids", com_ids), *section("datasets", elements),
+             *names_section("telegram_names", telegrams), *names_section("dataset_names", datasets.dataset_names)]
+    return "\n".join([*lines, "}", ""])
 
 
 class OneFile(trdp_words.Words):

@@ -1,20 +1,24 @@
-"""Values as people read them, with names, units, REALs and texts: in the lines of trdp_dump.py."""
+"""Values as people read them, with names, units, REALs and texts: in the lines of trdp_dump.py and in the dissector."""
 from __future__ import annotations
 
 import os
 import pathlib
 import random
+import re
+import shutil
 import socket
+import subprocess
 import tempfile
 import tomllib
 import unittest
 from unittest import mock
 
 import trdp_dump
+import trdp_lua
 import trdp_telegram
 import trdp_words
 from test_tools import Dump
-from testing import SEED
+from testing import SEED, TOP
 from trdp_slot import Datasets
 
 SOURCE, DEST = ("127.0.8.40", 17224), ("127.0.8.41", 17224)
@@ -101,6 +105,27 @@ name = "bytes"
 DRIVE = "007d01" "008202" "01" "008703"
 DRIVE_VALUE = ("{front: {speed: 12.5 km/h (125), locked: False (1)}, {speed: 13.0 km/h (130), locked: True (2)}, 1, "
                "more: [{speed: 13.5 km/h (135), locked: 3}]}")
+DRIVE_TREE = f"""\
+    comId: 5000 (drive status)
+    [dataset: 6001 (the drive)]
+    value: {DRIVE_VALUE}
+        front: {{speed: 12.5 km/h (125), locked: False (1)}}
+            speed: 12.5 km/h (125)
+                [number: 12.5]
+            locked: False (1)
+                [number: 1]
+        element 1, dataset 6000 (axle): {{speed: 13.0 km/h (130), locked: True (2)}}
+            speed: 13.0 km/h (130)
+                [number: 13]
+            locked: True (2)
+                [number: 2]
+        element 2, UINT8: 1
+        more, item 0: {{speed: 13.5 km/h (135), locked: 3}}
+            speed: 13.5 km/h (135)
+                [number: 13.5]
+            locked: 3
+                [number: 3]
+"""
 # What a line says after the length: comId, payload, words.
 LINES = [
     (5000, DRIVE, f"telegram='drive\\x20status' dataset='the\\x20drive' value={DRIVE_VALUE}"),
@@ -111,13 +136,25 @@ LINES = [
 ]
 NAMES = [("doors", "doors"), ("Türen/1-4", "Türen/1-4"), ("it's", '"it\'s"'), ("a b", "'a\\x20b'"),
          ("a\\b", "'a\\\\b'"), ("a\u2028b", "'a\\u2028b'")]
+# Texts, and what they are in Lua.
+LUA_TEXTS = [("speed", '"speed"'), ('a"b\\', '"a\\034b\\092"'), ("]] --[[ é", '"]] --[[ \\195\\169"'),
+             ("a\u2028b", '"a\\092u2028b"'), ("a\nb", '"a\\092nb"')]
 # Of how many payloads each dataset is shown.
 PAYLOADS = 60
+# Bytes of texts that Python and the dissector escape alike.
+LETTERS = b"\0\1\2\x1b'\"A\\"
 
 
 def telegram(com_id: int, payload: bytes, counter: int = 0) -> bytes:
     """A telegram of process data."""
     return trdp_telegram.Telegram("Pd", com_id, counter, payload=payload).write()
+
+
+def random_payload(chance: random.Random, elements: str, data: str) -> bytes:
+    """Bytes that may be a value of these elements: as long as a value, or of another length."""
+    length = chance.choice([len(data) // 2, len(data) // 2, chance.randrange(20)])
+    has_text = "CHAR8" in elements or "UTF16" in elements
+    return bytes(chance.choice(LETTERS) for _ in range(length)) if has_text else chance.randbytes(length)
 
 
 class Readings(unittest.TestCase):
@@ -167,3 +204,89 @@ class Readings(unittest.TestCase):
         with socket.socket(socket.AF_INET, socket.SOCK_DGRAM) as out:
             out.sendto(telegram(number, bytes.fromhex(STOP)), DEST)
         self.assertEqual([it.partition(" value=")[2] for it in dump.lines()], ["{stop: 'Z\\xfcrich'}"])
+
+    def test_texts_in_lua(self) -> None:
+        """The script for the dissector quotes what a name has."""
+        for text, quoted in LUA_TEXTS:
+            self.assertEqual(trdp_lua.lua_text(text), quoted)
+
+    def test_the_script(self) -> None:
+        """The script has the names, units and numbers of the file."""
+        config = ("[[dataset]]\nid = 40\nname = 'a'\nelement = [{ type = 1, name = 'b', unit = 'c', scale = 0.5 }, "
+                  "{ type = 10, as = 'REAL32', offset = 1e3 }, { type = 'BITSET8' }]\n"
+                  "[[telegram]]\ncom_id = 7\ndataset = 40\nname = 'd'\n")
+        self.assertTrue(trdp_lua.lua_table(Datasets.from_tables(tomllib.loads(config))).endswith(
+            '        [40] = { { "BOOL8", 1, name = "b", unit = "c", scale = 0.5, offset = 0.0, decimals = 1 }, '
+            '{ "REAL32", 1, scale = 1.0, offset = 1000.0 }, { "BOOL8", 1 } },\n    },\n'
+            '    telegram_names = {\n        [7] = "d",\n    },\n'
+            '    dataset_names = {\n        [40] = "a",\n    },\n}\n'))
+
+
+@unittest.skipUnless(shutil.which("tshark"), "tshark isn't there")
+class Dissected(unittest.TestCase):
+    """What the dissector makes of the same."""
+
+    datasets = Readings.datasets
+
+    def setUp(self) -> None:
+        self.folder = pathlib.Path(self.enterContext(tempfile.TemporaryDirectory()))
+        (self.folder / "datasets.lua").write_text(trdp_lua.lua_table(self.datasets), "ascii")
+
+    def shown(self, telegrams: list[bytes], *words: str) -> str:
+        """What tshark prints of telegrams."""
+        capture = self.folder / "sent.pcapng"
+        with open(capture, "wb") as out:
+            file = trdp_telegram.PcapngFile(out)
+            for data in telegrams:
+                file.add(0, SOURCE, DEST, data)
+        line = ["tshark", "-X", f"lua_script:{TOP}/wireshark/trdp.lua", "-X", f"lua_script:{self.folder}/datasets.lua",
+                "-r", str(capture), *words]
+        ran = subprocess.run(line, capture_output=True, encoding="utf-8", check=True, timeout=120)
+        self.assertNotIn("Lua", ran.stderr)
+        return ran.stdout
+
+    def values(self, telegrams: list[bytes]) -> list[str]:
+        """The value that is shown of each telegram; an empty text where it is none."""
+        words = ["-T", "fields", "-e", "_ws.lua.error", "-e", "trdp.value"]
+        rows = [it.split("\t", 1) for it in self.shown(telegrams, *words).splitlines()]
+        self.assertEqual({fault for fault, _ in rows}, {""})
+        return [value for _, value in rows]
+
+    def test_values(self) -> None:
+        """The values are those of the lines."""
+        telegrams = [telegram(number, bytes.fromhex(data)) for number, (_, data, _) in enumerate(VALUES, FIRST)]
+        self.assertEqual(self.values(telegrams), [text for _, _, text in VALUES])
+
+    def test_random_payloads(self) -> None:
+        """The same of payloads by chance, many of which are no value."""
+        chance = random.Random(SEED)
+        telegrams, texts = [], []
+        for number, (elements, data, _) in list(enumerate(VALUES, FIRST)) * PAYLOADS:
+            payload = random_payload(chance, elements, data)
+            telegrams.append(telegram(number, payload))
+            texts.append(trdp_dump.payload_word(payload, number, self.datasets))
+        wanted = [it.removeprefix("value=") if it.startswith("value=") else "" for it in texts]
+        self.assertEqual(self.values(telegrams), wanted, SEED)
+
+    def test_the_tree(self) -> None:
+        """The tree has a line for each element, by its name, with the number that people read."""
+        said = self.shown([telegram(5000, bytes.fromhex(DRIVE))], "-O", "trdp")
+        tree = said.partition("Train Real-time Data Protocol\n")[2]
+        found = re.sub(r"^    (?!comId|\[dataset|value| ).*\n|^(?! ).*\n|^\n", "", tree, flags=re.MULTILINE)
+        self.assertEqual(found, DRIVE_TREE)
+
+    def test_the_list(self) -> None:
+        """The list of packets has the name of the telegram, and a long value up to a whole letter."""
+        said = self.shown([telegram(5000, bytes.fromhex(DRIVE), 7), telegram(5002, "ü".encode() * 200)])
+        self.assertIn(f"Pd, data, comId 5000 (drive status), sequenceCounter 7, {DRIVE_VALUE}\n", said)
+        self.assertIn("Pd, data, comId 5002, sequenceCounter 0, {stop: '" + "ü" * 94 + "...\n", said)
+
+    def test_filters(self) -> None:
+        """Elements are found by their names and by the numbers that people read, and so is what is no value."""
+        payloads = [bytes.fromhex(it) for it in ("007c", "007d", "007e", "00")]
+        telegrams = [telegram(FIRST, it, counter) for counter, it in enumerate(payloads)]
+        for text, counters in [('trdp.element == "speed"', "0 1 2"), ('trdp.element == "oil"', ""),
+                               ("trdp.element.number > 12.5", "2"), ("trdp.element.number == 12.5", "1"),
+                               ("trdp.value.wrong", "3")]:
+            said = self.shown(telegrams, "-Y", text, "-T", "fields", "-e", "trdp.sequenceCounter")
+            self.assertEqual(" ".join(said.split()), counters, text)

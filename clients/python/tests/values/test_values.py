@@ -289,4 +289,4 @@ class Telegrams(unittest.TestCase):
             "[[dataset]]\nid = 41\nelement = [{ type = 40, size = 3 }]\n[[telegram]]\ncom_id = 7\ndataset = 41\n"))
         self.assertTrue(text.endswith(
             '_G.trdp_datasets = {\n    com_ids = {\n        [7] = 41,\n    },\n    datasets = {\n'
-            '        [40] = { { "UINT8", 1 }, { "BITSET8", 0 } },\n        [41] = { { 40, 3 } },\n    },\n}\n'))
+            '        [40] = { { "UINT8", 1 }, { "BOOL8", 0 } },\n        [41] = { { 40, 3 } },\n    },\n}\n'))
