@@ -6,9 +6,9 @@
     trdp_send.py 127.0.0.1:17225 --type Mn --com-id 300 --source-uri door --dest-uri car --data 0d
     trdp_send.py 239.192.0.1:17224 --from 10.0.0.2:17224 --ttl 5 --com-id 1101 --data 040000
 
-A value is written as trdp_dump.py prints one: a list with one entry for each element, a number, a pair in round
-brackets for a time, a list for an array or another dataset. Its dataset is that of the comId in the file's
-`[[telegram]]` tables, or the one that is named by --dataset.
+A value is written as trdp_dump.py prints one without names: a list with one entry for each element, a number, a pair in
+round brackets for a time, a list for an array or another dataset. It may be a dict by names, too. Its dataset is the
+one of the comId in the file's `[[telegram]]` tables, or the one that is named by --dataset.
 
 With a cycle the counter of process data rises by one with each telegram; that of a message stays. It goes on until
 it is interrupted, or by --count.

@@ -13,7 +13,7 @@ import signal
 import subprocess
 import unittest
 
-from pages import Block, Folder, Step, blocks
+from pages import Block, Folder, Step, blocks, pattern
 from testing import TOP, has_groups, wait_until
 
 PAGES = ("CLIENTS", "PYTHON", "C")
@@ -177,7 +177,8 @@ class Pages(unittest.TestCase):
             self.prints(step)
         if has_groups():
             self.groups()
-        table, shown = self.steps("$ clients/python/trdp_lua.py")
+        self.names()
+        table, shown = self.steps("$ clients/python/trdp_lua.py doors.toml")
         self.prints(table)
         self.assertIn("[2101] = 5002", (self.top / "datasets.lua").read_text())
         if shutil.which("tshark") and os.geteuid() == 0:
@@ -185,8 +186,21 @@ class Pages(unittest.TestCase):
 
     def groups(self) -> None:
         """A dump in a group, and a telegram to that."""
-        joined, sent = self.steps(here("$ clients/python/trdp_dump.py 127.0.0.3"))
-        process = self.begins(joined)
+        self.dumps(*self.steps(here("$ clients/python/trdp_dump.py 127.0.0.3 --group")))
+
+    def names(self) -> None:
+        """A value by names and units."""
+        self.write("drive.toml", "[[dataset]]\nid = 6001\n")
+        self.dumps(*self.steps(here("$ clients/python/trdp_dump.py 127.0.0.3 --toml")))
+        table, shown = self.steps("$ clients/python/trdp_lua.py drive.toml")
+        self.prints(table)
+        if shutil.which("tshark"):
+            said = self.folder.type(shown.text)
+            self.assertRegex("".join(f"{it}\n" for it in said), pattern(shown.shown))
+
+    def dumps(self, dump: Step, sent: Step) -> None:
+        """A dump prints what the page shows below the command that sends it."""
+        process = self.begins(dump)
         self.assertEqual(self.folder.type(sent.text), [])
         self.assertEqual(process.communicate(timeout=60)[0].splitlines(), sent.shown)
 
