@@ -1,7 +1,8 @@
 """Names of a configuration as identifiers, which are the same in Python, C and C++.
 
 A name that is no identifier has `_` in place of every other character, and before a leading digit. A keyword of one of
-the languages has `_` after it. A name that equals an earlier one except for case gets `_2`, then `_3`, and so on.
+the languages has `_` after it. A name that equals an earlier one except for case gets `_2`, then `_3`, and so on. Of
+several `_` at the beginning one stays: a class of Python hides a name that begins with two.
 """
 from __future__ import annotations
 
@@ -65,7 +66,7 @@ def spellings(names: Iterable[str], reserved: Container[str] = ()) -> list[Spell
 
 def candidates(name: str, reserved: Container[str]) -> Iterator[str]:
     """What a name may become: the first one that no earlier name has is taken."""
-    first = re.sub("[^A-Za-z0-9_]", "_", name)
+    first = re.sub("^__+", "_", re.sub("[^A-Za-z0-9_]", "_", name))
     if not first or first[0].isdigit():
         first = "_" + first
     if first in WORDS or first in reserved:
