@@ -1,6 +1,9 @@
 /* Values of datasets, as a struct and as bytes, and descriptions that are none. */
 #include "test.h"
 
+#include <float.h>
+#include <math.h>
+
 struct inner {
     int8_t low;
     uint16_t many[3];
@@ -56,6 +59,42 @@ static void values(void)
     CHECK(back.count == 0);
 }
 
+struct reals {
+    float single[4];
+    double twice;
+    uint8_t count;
+    float counted[3];
+    double last;
+};
+
+static const struct trdp_slot_element reals_elements[] = {
+    TRDP_SLOT_ARRAY(struct reals, single, TRDP_SLOT_REAL32),
+    TRDP_SLOT_ONE(struct reals, twice, TRDP_SLOT_REAL64),
+    TRDP_SLOT_ONE(struct reals, count, TRDP_SLOT_UINT8),
+    TRDP_SLOT_COUNTED(struct reals, counted, TRDP_SLOT_REAL32),
+    TRDP_SLOT_ONE(struct reals, last, TRDP_SLOT_REAL64) };
+static const struct trdp_slot_dataset reals = TRDP_SLOT_DATASET(struct reals, reals_elements);
+
+/* A float and a double are the bytes of IEEE 754, whatever these mean: a number, the smallest one,
+ * -0, an infinity, or a NaN, of which each bit is kept. */
+static void floats(void)
+{
+    static const uint8_t wire[] = { 0xbf, 0xc0, 0, 0, 0, 0, 0, 1, 0x80, 0, 0, 0, 0x7f, 0xa0, 0, 5,
+        0x3f, 0xb9, 0x99, 0x99, 0x99, 0x99, 0x99, 0x9a, 1, 0x7f, 0x7f, 0xff, 0xff,
+        0xff, 0xf0, 0, 0, 0, 0, 0, 0 };
+    struct reals value = { .single = { -1.5f, FLT_MIN / (1 << 23), -0.0f }, .twice = 0.1,
+        .count = 1, .counted = { FLT_MAX }, .last = -HUGE_VAL }, back;
+    uint32_t nan = 0x7fa00005;
+    uint8_t bytes[64];
+    size_t length = 0;
+    memcpy(&value.single[3], &nan, sizeof nan);
+    CHECK_ERROR(trdp_slot_pack(&reals, &value, bytes, sizeof bytes, &length), TRDP_SLOT_OK);
+    CHECK(length == sizeof wire && memcmp(bytes, wire, length) == 0);
+    CHECK_ERROR(trdp_slot_unpack(&reals, wire, sizeof wire, &back), TRDP_SLOT_OK);
+    CHECK(memcmp(back.single, value.single, sizeof back.single) == 0);
+    CHECK(back.twice == 0.1 && back.counted[0] == FLT_MAX && back.last == -HUGE_VAL);
+}
+
 /* Whether a dataset of these elements is one. */
 static bool is_dataset(const struct trdp_slot_element *elements, size_t count, size_t size)
 {
@@ -87,8 +126,10 @@ static void no_datasets(void)
     CHECK(!is_dataset(wrong, 2, 8)); /* more items than the member has */
     wrong[1].size = 3;
     CHECK(is_dataset(wrong, 2, 8));
-    wrong[0].type = (enum trdp_slot_type)12;
-    CHECK(!is_dataset(wrong, 2, 8)); /* REAL32 */
+    wrong[0].type = TRDP_SLOT_REAL32;
+    CHECK(!is_dataset(wrong, 2, 8)); /* another width, and it counts nothing */
+    wrong[0].type = (enum trdp_slot_type)17;
+    CHECK(!is_dataset(wrong, 2, 8)); /* no type */
     wrong[0].type = TRDP_SLOT_NESTED;
     CHECK(!is_dataset(wrong, 2, 8)); /* in which nothing is nested */
     /* Five deep, and six. */
@@ -108,5 +149,6 @@ static void no_datasets(void)
 void test_datasets(void)
 {
     values();
+    floats();
     no_datasets();
 }

@@ -2419,6 +2419,8 @@ enum trdp_slot_type {
     TRDP_SLOT_UINT16 = 9,
     TRDP_SLOT_UINT32 = 10,
     TRDP_SLOT_UINT64 = 11,
+    TRDP_SLOT_REAL32 = 12,     /* float: a UINT32 of the configuration, `as = "REAL32"` */
+    TRDP_SLOT_REAL64 = 13,     /* double: a UINT64 of the configuration, `as = "REAL64"` */
     TRDP_SLOT_TIMEDATE32 = 14, /* uint32_t, in seconds */
     TRDP_SLOT_TIMEDATE48 = 15, /* struct trdp_slot_timedate48 */
     TRDP_SLOT_TIMEDATE64 = 16  /* struct trdp_slot_timedate64 */
@@ -2495,10 +2497,12 @@ static inline size_t trdp_slot_width(enum trdp_slot_type type)
         return 2;
     case TRDP_SLOT_INT32:
     case TRDP_SLOT_UINT32:
+    case TRDP_SLOT_REAL32:
     case TRDP_SLOT_TIMEDATE32:
         return 4;
     case TRDP_SLOT_INT64:
     case TRDP_SLOT_UINT64:
+    case TRDP_SLOT_REAL64:
         return 8;
     case TRDP_SLOT_NESTED:
     case TRDP_SLOT_TIMEDATE48:
