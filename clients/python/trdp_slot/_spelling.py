@@ -66,11 +66,16 @@ def spellings(names: Iterable[str], reserved: Container[str] = ()) -> list[Spell
 
 def candidates(name: str, reserved: Container[str]) -> Iterator[str]:
     """What a name may become: the first one that no earlier name has is taken."""
-    first = re.sub("^__+", "_", re.sub("[^A-Za-z0-9_]", "_", name))
+    first = visible(re.sub("[^A-Za-z0-9_]", "_", name))
     if not first or first[0].isdigit():
         first = "_" + first
     if first in WORDS or first in reserved:
         first += "_"
     yield first
     for number in itertools.count(2):
-        yield f"{first}_{number}"
+        yield visible(f"{first}_{number}")
+
+
+def visible(identifier: str) -> str:
+    """An identifier that begins with one underscore at most."""
+    return re.sub("^__+", "_", identifier)

@@ -21,7 +21,7 @@ class Spellings(unittest.TestCase):
             ("a-b", "a_b", "A b", "a_b_2"): ("a_b", "a_b_2", "A_b_3", "a_b_2_2"),
             ("a_2", "a", "A"): ("a_2", "a", "A_3"),
             ("if", "if_", "IF_"): ("if_", "if__2", "IF__3"),
-            ("__init__", "--", "_x__y"): ("_init__", "_", "_x__y"),
+            ("__init__", "--", "_x__y", "+", "2", "_2_2"): ("_init__", "_", "_x__y", "_2", "_2_2", "_2_2_2"),
         }
         for names, identifiers in cases.items():
             with self.subTest(names):
