@@ -2384,7 +2384,7 @@ static inline enum trdp_slot_error trdp_slot_next(struct trdp_slot *slot, uint32
 /* ---- Values of datasets ----
  *
  * A program writes a dataset of the configuration down once, as constants, over a struct of its own
- * with a member for each element:
+ * with a member for each element, or has `trdp-structs` write both:
  *
  *     struct status {
  *         uint8_t count;
