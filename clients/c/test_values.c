@@ -5,11 +5,12 @@
  *
  * A line has: how many datasets; of each, how many elements, and of each of these its type (a
  * number of the header, or 100 and the index of a dataset before), its size and the room of its
- * member; the index of the dataset of the value; how many numbers that has, and these; its bytes;
- * how many other bytes, and these. A line comes back: the error and the bytes of pack; the error
- * and the numbers of unpack; and of the other bytes the error, and what pack makes of them. */
+ * member; the index of the dataset of the value; the numbers of the value; its bytes; how many
+ * other bytes, and these. A line comes back: the error and the bytes of pack; the error and the
+ * numbers of unpack; and of the other bytes the error, and what pack makes of them. */
 #include "trdp_slot.h"
 
+#include <math.h>
 #include <stdio.h>
 #include <stdlib.h>
 
@@ -66,7 +67,89 @@ static bool is_signed(enum trdp_slot_type type)
     return type >= TRDP_SLOT_INT8 && type <= TRDP_SLOT_INT64;
 }
 
-/* Reads the numbers of a value from the line into its struct, or writes them out. */
+static bool is_real(enum trdp_slot_type type)
+{
+    return type == TRDP_SLOT_REAL32 || type == TRDP_SLOT_REAL64;
+}
+
+/* Reads a REAL from the line into its member: its number, or `nan` and the bits of a NaN. */
+static void read_real(enum trdp_slot_type type, uint8_t *at)
+{
+    const char *text = word();
+    if (strncmp(text, "nan", 3) == 0) {
+        trdp_slot_store(at, trdp_slot_width(type), strtoull(text + 3, NULL, 10));
+    } else if (type == TRDP_SLOT_REAL32) {
+        float real = strtof(text, NULL);
+        memcpy(at, &real, sizeof real);
+    } else {
+        double real = strtod(text, NULL);
+        memcpy(at, &real, sizeof real);
+    }
+}
+
+/* Prints a REAL in the same way. */
+static void print_real(enum trdp_slot_type type, const uint8_t *at)
+{
+    float single = 0;
+    double real = 0;
+    if (type == TRDP_SLOT_REAL32)
+        memcpy(&single, at, sizeof single);
+    else
+        memcpy(&real, at, sizeof real);
+    if (isnan(single) || isnan(real))
+        printf(" nan%llu", (unsigned long long)trdp_slot_load(at, trdp_slot_width(type)));
+    else if (type == TRDP_SLOT_REAL32)
+        printf(" %.9g", (double)single);
+    else
+        printf(" %.17g", real);
+}
+
+/* Reads an item of a basic type from the line into its member. */
+static void read_item(enum trdp_slot_type type, uint8_t *at)
+{
+    if (is_real(type)) {
+        read_real(type, at);
+    } else if (type == TRDP_SLOT_TIMEDATE48) {
+        struct trdp_slot_timedate48 time;
+        memset(&time, 0, sizeof time);
+        time.seconds = (uint32_t)number();
+        time.ticks = (uint16_t)number();
+        memcpy(at, &time, sizeof time);
+    } else if (type == TRDP_SLOT_TIMEDATE64) {
+        struct trdp_slot_timedate64 time;
+        time.seconds = (uint32_t)number();
+        time.microseconds = (uint32_t)number();
+        memcpy(at, &time, sizeof time);
+    } else if (is_signed(type)) {
+        trdp_slot_store(at, trdp_slot_width(type), (uint64_t)strtoll(word(), NULL, 10));
+    } else {
+        trdp_slot_store(at, trdp_slot_width(type), number());
+    }
+}
+
+/* Prints an item of a basic type. */
+static void print_item(enum trdp_slot_type type, const uint8_t *at)
+{
+    size_t width = trdp_slot_width(type);
+    if (is_real(type)) {
+        print_real(type, at);
+    } else if (type == TRDP_SLOT_TIMEDATE48) {
+        struct trdp_slot_timedate48 time;
+        memcpy(&time, at, sizeof time);
+        printf(" %u %u", (unsigned)time.seconds, (unsigned)time.ticks);
+    } else if (type == TRDP_SLOT_TIMEDATE64) {
+        struct trdp_slot_timedate64 time;
+        memcpy(&time, at, sizeof time);
+        printf(" %u %u", (unsigned)time.seconds, (unsigned)time.microseconds);
+    } else if (is_signed(type)) {
+        uint64_t bits = trdp_slot_load(at, width) << (64 - 8 * width);
+        printf(" %lld", (long long)(int64_t)bits / (1LL << (64 - 8 * width)));
+    } else {
+        printf(" %llu", (unsigned long long)trdp_slot_load(at, width));
+    }
+}
+
+/* Reads the numbers of a value from the line into its struct, or prints them. */
 static void transfer(const struct trdp_slot_dataset *dataset, uint8_t *value, bool is_read)
 {
     uint64_t counted = 0;
@@ -75,44 +158,15 @@ static void transfer(const struct trdp_slot_dataset *dataset, uint8_t *value, bo
         uint64_t items = element->size > 0 ? element->size : counted;
         for (uint64_t item = 0; item < items; item++) {
             uint8_t *at = value + element->offset + item * element->item;
-            size_t width = trdp_slot_width(element->type);
-            if (element->type == TRDP_SLOT_NESTED) {
+            if (element->type == TRDP_SLOT_NESTED)
                 transfer(element->dataset, at, is_read);
-            } else if (element->type == TRDP_SLOT_TIMEDATE48) {
-                struct trdp_slot_timedate48 time;
-                memcpy(&time, at, sizeof time);
-                if (is_read) {
-                    time.seconds = (uint32_t)number();
-                    time.ticks = (uint16_t)number();
-                    memcpy(at, &time, sizeof time);
-                } else {
-                    printf(" %u %u", (unsigned)time.seconds, (unsigned)time.ticks);
-                }
-            } else if (element->type == TRDP_SLOT_TIMEDATE64) {
-                struct trdp_slot_timedate64 time;
-                memcpy(&time, at, sizeof time);
-                if (is_read) {
-                    time.seconds = (uint32_t)number();
-                    time.microseconds = (uint32_t)number();
-                    memcpy(at, &time, sizeof time);
-                } else {
-                    printf(" %u %u", (unsigned)time.seconds, (unsigned)time.microseconds);
-                }
-            } else if (is_read && is_signed(element->type)) {
-                trdp_slot_store(at, width, (uint64_t)strtoll(word(), NULL, 10));
-            } else if (is_read) {
-                trdp_slot_store(at, width, number());
-            } else if (is_signed(element->type)) {
-                uint64_t bits = trdp_slot_load(at, width) << (64 - 8 * width);
-                printf(" %lld", (long long)(int64_t)bits / (1LL << (64 - 8 * width)));
-            } else {
-                printf(" %llu", (unsigned long long)trdp_slot_load(at, width));
-            }
-            if (item == 0 && trdp_slot_counts_array(element))
-                counted = trdp_slot_load(at, width);
+            else if (is_read)
+                read_item(element->type, at);
+            else
+                print_item(element->type, at);
         }
-        if (!trdp_slot_counts_array(element))
-            counted = 0;
+        counted = trdp_slot_counts_array(element)
+            ? trdp_slot_load(value + element->offset, element->item) : 0;
     }
 }
 
@@ -166,7 +220,6 @@ int main(void)
         uint8_t *value = calloc(1, dataset->size), *unpacked = malloc(dataset->size);
         if (value == NULL || unpacked == NULL)
             abort();
-        (void)number(); /* how many there are is seen by the dataset */
         transfer(dataset, value, true);
         printf("pack");
         pack(dataset, value);

@@ -1,129 +1,60 @@
 #!/usr/bin/env python3
 """Draws datasets and values by chance, and compares what C and Python make of them.
 
-    clients/c/values.py PROGRAM [COUNT]
+    clients/c/values.py [--count N] PROGRAM ..
 
-PROGRAM is test_values.c, compiled. COUNT datasets are drawn, 2000 by default, each with a value, whose bytes have to
-be the same in both languages, as has to be the value of the bytes; and other bytes near them, which have to be a value
-in both or in none. What is drawn depends on TRDP_SEED in the environment, which is printed. Prints
-`values: N passed, M failed`, and ends with status 1 where something differs.
+PROGRAM is test_values.c, compiled, by one or more compilers. N datasets are drawn, 2000 by default, each with a value.
+C has to make the same bytes of it as Python, which has it as a list, a dict and a dataclass of trdp-structs, and the
+same value of the bytes. Other bytes near them have to be a value in both languages or in none. What is drawn depends on
+TRDP_SEED in the environment, which is printed. Prints `values: N passed, M failed`, and ends with status 1 if something
+differs.
 """
 from __future__ import annotations
 
+import argparse
+import itertools
+import math
 import os
 import pathlib
 import random
 import subprocess
 import sys
-from typing import Any, NamedTuple
+from collections.abc import Iterator
+from typing import Any
 
 sys.dont_write_bytecode = True
 HERE = pathlib.Path(__file__).resolve().parent
 sys.path.insert(0, str(HERE.parent / "python"))
-from trdp_slot import BASIC_TYPES, COUNT_TYPES, DEPTH_MOST, Datasets, DoesNotFit, Element, Number  # noqa: E402
+from drawn import FIRST, Case, draw  # noqa: E402
+from forms import faults_of, meant  # noqa: E402
+from trdp_slot import Datasets, DoesNotFit, Element  # noqa: E402
 
 NUMBERS = {"BOOL8": 1, "BITSET8": 1, "CHAR8": 2, "UTF16": 3, "INT8": 4, "INT16": 5, "INT32": 6, "INT64": 7, "UINT8": 8,
-           "UINT16": 9, "UINT32": 10, "UINT64": 11, "TIMEDATE32": 14, "TIMEDATE48": 15, "TIMEDATE64": 16}
+           "UINT16": 9, "UINT32": 10, "UINT64": 11, "REAL32": 12, "REAL64": 13, "TIMEDATE32": 14, "TIMEDATE48": 15,
+           "TIMEDATE64": 16, "ANTIVALENT8": 1}
+# How many digits tell two numbers apart.
+DIGITS = {"REAL32": 9, "REAL64": 17}
 # The numbers of the header's errors that are compared.
 OK, CUT, NO_FIT = "OK", "CUT", "NO_FIT"
-FIRST = 1000  # the number of the first dataset
-OTHERS = 3  # how many other bytes a value has, beside those of a value whose arrays may be too long
-BYTES_MOST = 4000  # of a value
 SEED = int(os.environ.get("TRDP_SEED") or random.randrange(1 << 32))
 
 
-Rooms = dict[tuple[int, int], int]  # of members, by the dataset and the index of the element
+def words_of(datasets: Datasets, number: int, value: list[Any]) -> Iterator[str]:
+    """The numbers of a value, in order, as test_values.c reads and prints them."""
+    for element, entry in zip(datasets.elements[number], value):
+        for item in [entry] if element.size == 1 else entry:
+            if isinstance(element.type, int):
+                yield from words_of(datasets, element.type, item)
+            elif element.as_ in DIGITS:
+                yield real_word(element, item)
+            else:
+                yield from map(str, item if isinstance(item, tuple) else [item])
 
 
-class Case(NamedTuple):
-    """Datasets, of which the last one is that of the value; how many items each counted array may have."""
-
-    datasets: Datasets
-    rooms: Rooms
-    number: int
-    value: Any
-    data: bytes
-    others: list[bytes]
-
-
-def draw_datasets(chance: random.Random) -> tuple[Datasets, Rooms]:
-    """Datasets, each of which may have those before as elements, and the rooms of their members."""
-    elements: dict[int, list[Element]] = {}
-    depths: dict[int, int] = {}
-    rooms: Rooms = {}
-    for number in range(FIRST, FIRST + chance.randrange(1, 8)):
-        drawn: list[Element] = []
-        inner = [it for it in depths if depths[it] < DEPTH_MOST]
-        for index in range(chance.randrange(1, 6)):
-            kind: str | int = chance.choice(list(BASIC_TYPES))
-            if inner and chance.random() < 0.4:
-                kind = chance.choice(inner[-2:])
-            size = chance.choice([1, 1, 1, 2, 3])
-            if drawn and drawn[-1].size == 1 and drawn[-1].type in COUNT_TYPES and chance.random() < 0.7:
-                size = 0
-            elif chance.random() < 0.25:
-                kind, size = chance.choice(COUNT_TYPES), 1
-            drawn.append(Element(kind, size))
-            rooms[number, index] = size or chance.randrange(1, 5)
-        elements[number] = drawn
-        depths[number] = 1 + max((depths[it.type] for it in drawn if isinstance(it.type, int)), default=0)
-    return Datasets(elements), rooms
-
-
-def draw_number(chance: random.Random, low: int, high: int) -> int:
-    return chance.choice([low, high, chance.randint(low, high), chance.randint(low, high)])
-
-
-def draw_item(drawn: tuple[Datasets, Rooms], kind: str | int, chance: random.Random) -> Any:
-    if isinstance(kind, int):
-        return draw_value(drawn, kind, chance)
-    basic = BASIC_TYPES[kind]
-    if isinstance(basic, Number):
-        return draw_number(chance, basic.low, basic.high)
-    return tuple(draw_number(chance, 0, highest) for highest in basic.highest)
-
-
-def draw_value(drawn: tuple[Datasets, Rooms], number: int, chance: random.Random) -> list[Any]:
-    datasets, rooms = drawn
-    elements = datasets.elements[number]
-    value: list[Any] = []
-    for index, element in enumerate(elements):
-        if index + 1 < len(elements) and elements[index + 1].size == 0:
-            value.append(chance.randint(0, rooms[number, index + 1]))
-        elif element.size == 1:
-            value.append(draw_item(drawn, element.type, chance))
-        else:
-            count = element.size or value[-1]
-            value.append([draw_item(drawn, element.type, chance) for _ in range(count)])
-    return value
-
-
-def near(data: bytes, chance: random.Random) -> bytes:
-    """Bytes that differ a little."""
-    other = bytearray(data)
-    for _ in range(chance.randrange(3)):
-        if other:
-            other[chance.randrange(len(other))] = chance.choice([0, 1, 2, 3, 5, 255])
-    if chance.random() < 0.3:
-        other += bytes(chance.randrange(4))
-    return bytes(other[:len(other) - chance.choice([0, 0, 0, 1, 2])])
-
-
-def draw(chance: random.Random) -> Case:
-    while True:
-        drawn = draw_datasets(chance)
-        number = max(drawn[0].elements)
-        value = draw_value(drawn, number, chance)
-        data = drawn[0].pack(number, value)
-        more = {key: room + 1 for key, room in drawn[1].items()}
-        longer = drawn[0].pack(number, draw_value((drawn[0], more), number, chance))
-        if max(len(data), len(longer)) <= BYTES_MOST:
-            return Case(*drawn, number, value, data, [longer, *(near(data, chance) for _ in range(OTHERS))])
-
-
-def flat(value: Any) -> list[int]:
-    """The numbers of a value, in order."""
-    return [value] if isinstance(value, int) else [number for it in value for number in flat(it)]
+def real_word(element: Element, bits: int) -> str:
+    """The number of a REAL, or the bits of a NaN."""
+    number = meant(element, bits)
+    return f"nan{bits}" if math.isnan(number) else f"{number:.{DIGITS[str(element.as_)]}g}"
 
 
 def has_room(case: Case, number: int, value: Any) -> bool:
@@ -143,17 +74,18 @@ def line_of(case: Case) -> str:
     for number, elements in case.datasets.elements.items():
         words.append(len(elements))
         for index, element in enumerate(elements):
-            kind = 100 + element.type - FIRST if isinstance(element.type, int) else NUMBERS[element.type]
-            words += [kind, element.size, case.rooms[number, index]]
-    numbers = flat(case.value)
-    words += [case.number - FIRST, len(numbers), *numbers, case.data.hex() or "-", len(case.others)]
-    words += [it.hex() or "-" for it in case.others]
+            kind = element.as_ or element.type
+            words += [100 + kind - FIRST if isinstance(kind, int) else NUMBERS[kind], element.size,
+                      case.rooms[number, index]]
+    words += [case.number - FIRST, *words_of(case.datasets, case.number, case.value), case.data.hex() or "-"]
+    words += [len(case.others), *(it.hex() or "-" for it in case.others)]
     return " ".join(map(str, words))
 
 
 def expected(case: Case, errors: dict[str, int]) -> str:
     """What has to come back."""
-    words: list[int | str] = ["pack", errors[OK], case.data.hex() or "-", "unpack", errors[OK], *flat(case.value)]
+    words: list[int | str] = ["pack", errors[OK], case.data.hex() or "-", "unpack", errors[OK],
+                              *words_of(case.datasets, case.number, case.value)]
     for other in case.others:
         try:
             value = case.datasets.unpack(case.number, other)
@@ -174,28 +106,37 @@ def errors_of_header() -> dict[str, int]:
     return {name: names.index(f"TRDP_SLOT_{name}") for name in (OK, CUT, NO_FIT)}
 
 
-def main(program: str, count: int = 2000) -> int:
-    print(f"values: TRDP_SEED={SEED}", flush=True)
-    chance = random.Random(SEED)
-    cases = [draw(chance) for _ in range(count)]
-    errors = errors_of_header()
-    lines = "".join(f"{line_of(it)}\n" for it in cases)
-    ran = subprocess.run([program], input=lines, capture_output=True, text=True, timeout=600)
+def faults_in_c(program: str, lines: list[str], wanted: list[str]) -> Iterator[str]:
+    """What differs between what a program answers to these lines and what it has to."""
+    ran = subprocess.run([program], input="".join(f"{it}\n" for it in lines), capture_output=True, text=True,
+                         timeout=600)
     answers = ran.stdout.splitlines()
-    failed = 0
-    for case, answer in zip(cases, answers):
-        if answer != expected(case, errors):
-            failed += 1
-            if failed <= 3:
-                print(f"values: {line_of(case)}\n  gives   {answer}\n  and not {expected(case, errors)}")
-    wanting = count - len(answers) + (ran.returncode != 0)
-    if wanting:
-        print(f"values: {len(answers)} of {count} answers, status {ran.returncode}: {ran.stderr[-2000:]}")
-    print(f"values: {len(answers) - failed} passed, {failed + wanting} failed")
-    return 1 if failed or wanting else 0
+    for line, answer, want in zip(lines, answers, wanted):
+        if answer != want:
+            yield f"{line}\n  gives   {answer}\n  and not {want}"
+    if len(answers) != len(lines) or ran.returncode:
+        yield f"{program}: {len(answers)} of {len(lines)} answers, status {ran.returncode}: {ran.stderr[-2000:]}"
+
+
+def main() -> int:
+    """Draws, compares, and prints the first faults."""
+    parser = argparse.ArgumentParser(description="Compares what C and Python make of values that are drawn by chance.")
+    parser.add_argument("programs", metavar="PROGRAM", nargs="+", help="test_values.c, compiled")
+    parser.add_argument("--count", type=int, default=2000, help="how many values are drawn, 2000 by default")
+    asked = parser.parse_args()
+    print(f"values: TRDP_SEED={SEED}", flush=True)
+    cases = list(itertools.islice(draw(random.Random(SEED)), asked.count))
+    errors = errors_of_header()
+    faults = [f"{line_of(case)}\n  in Python: {it}" for case in cases for it in faults_of(case)]
+    lines, wanted = [line_of(it) for it in cases], [expected(it, errors) for it in cases]
+    for program in asked.programs:
+        faults += faults_in_c(program, lines, wanted)
+    for fault in faults[:3]:
+        print(f"values: {fault}")
+    compared = asked.count * (1 + len(asked.programs))
+    print(f"values: {max(0, compared - len(faults))} passed, {len(faults)} failed")
+    return 1 if faults else 0
 
 
 if __name__ == "__main__":
-    if len(sys.argv) not in (2, 3):
-        sys.exit("usage: values.py PROGRAM [COUNT]")
-    sys.exit(main(sys.argv[1], *map(int, sys.argv[2:])))
+    sys.exit(main())
