@@ -14,7 +14,7 @@ DOC = "usr/share/doc/trdpd"
 MODULES = "usr/lib/python3/dist-packages"
 PLUGINS = "usr/lib/x86_64-linux-gnu/wireshark/plugins"
 # The tools that are commands, and the module of each.
-TOOLS = {"trdp-dump": "trdp_dump", "trdp-lua": "trdp_lua", "trdp-send": "trdp_send"}
+TOOLS = {"trdp-dump": "trdp_dump", "trdp-lua": "trdp_lua", "trdp-send": "trdp_send", "trdp-structs": "trdp_structs"}
 # Debian's packages of the libraries, and how their versions begin in an ELF file.
 PACKAGES = {
     "libc.so.6": ("libc6", "GLIBC_"), "libm.so.6": ("libc6", "GLIBC_"), "ld-linux-x86-64.so.2": ("libc6", "GLIBC_"),

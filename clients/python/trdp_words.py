@@ -1,6 +1,6 @@
 """Words of command lines: what each can be, and one sentence for what can't be meant. And how names are printed.
 
-Used by trdp_dump.py, trdp_lua.py, trdp_send.py and examples/control/client.py.
+Used by trdp_dump.py, trdp_lua.py, trdp_send.py, trdp_structs.py and examples/control/client.py.
 """
 from __future__ import annotations
 

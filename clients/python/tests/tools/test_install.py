@@ -22,7 +22,7 @@ sys.path.insert(0, str(TOP / "package"))
 from version import SOURCE as VERSION_FILE  # noqa: E402
 from version import program_version  # noqa: E402
 
-TOOLS = ["trdp_dump", "trdp_lua", "trdp_send", "trdp_telegram", "trdp_words"]
+TOOLS = ["trdp_dump", "trdp_lua", "trdp_send", "trdp_structs", "trdp_telegram", "trdp_words"]
 MISSING = [it for it in ("pip", "setuptools", "venv", "wheel") if importlib.util.find_spec(it) is None]
 PORT_HOME = "127.0.8.23"
 # The first telegram of comId 100 with the dataset 0a0b.
@@ -130,11 +130,11 @@ class Install(unittest.TestCase):
             self.assertRegex(ran.stderr, f"^setup.py: {re.escape(str(version))}.*{said}")
 
     def test_help(self) -> None:
-        for name in ("trdp-dump", "trdp-lua", "trdp-send"):
+        for name in ("trdp-dump", "trdp-lua", "trdp-send", "trdp-structs"):
             self.assertTrue(run([self.bin(name), "--help"], self.folder).startswith(f"usage: {name} "))
 
     def test_a_tool_says_its_name(self) -> None:
-        for name, status in (("trdp-dump", 2), ("trdp-lua", 1), ("trdp-send", 2)):
+        for name, status in (("trdp-dump", 2), ("trdp-lua", 1), ("trdp-send", 2), ("trdp-structs", 1)):
             line = [self.bin(name), "nowhere"]
             ran = subprocess.run(line, cwd=self.folder, capture_output=True, text=True, timeout=20)
             self.assertEqual((ran.returncode, ran.stderr[:len(name) + 2]), (status, f"{name}: "))
