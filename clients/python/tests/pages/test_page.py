@@ -122,6 +122,7 @@ class Pages(unittest.TestCase):
         self.tools()
         self.doors()
         self.request()
+        self.structs()
         self.paths()
         self.controls()
 
@@ -221,6 +222,13 @@ class Pages(unittest.TestCase):
         self.write("lock.c", '#include "trdp_slot.h"\n#include <stdio.h>\n\nstruct side')
         steps = self.steps("$ gcc -std=c99 -pedantic -Wall -Wextra -Werror -O2 -I clients/c -o lock lock.c")
         for step in (*steps, steps[-1]):
+            self.prints(step)
+
+    def structs(self) -> None:
+        """A header that is made of a configuration, and a program in C with it."""
+        self.write("car.toml", "[[dataset]]\nid = 5003\n")
+        self.write("car.c", '#include "car.h"\n')
+        for step in self.steps("$ clients/python/trdp_structs.py"):
             self.prints(step)
 
     def paths(self) -> None:
