@@ -11,6 +11,8 @@ struct doors {
     uint8_t count;
     struct door each[8];
     uint16_t obstacles[2];
+    float speed;
+    double way;
 };
 
 static const struct trdp_slot_element door_elements[] = {
@@ -20,7 +22,9 @@ static const struct trdp_slot_dataset door_dataset = TRDP_SLOT_DATASET(struct do
 static const struct trdp_slot_element doors_elements[] = {
     TRDP_SLOT_ONE(struct doors, count, TRDP_SLOT_UINT8),
     TRDP_SLOT_NESTED_COUNTED(struct doors, each, &door_dataset),
-    TRDP_SLOT_ARRAY(struct doors, obstacles, TRDP_SLOT_UINT16) };
+    TRDP_SLOT_ARRAY(struct doors, obstacles, TRDP_SLOT_UINT16),
+    TRDP_SLOT_ONE(struct doors, speed, TRDP_SLOT_REAL32),
+    TRDP_SLOT_ONE(struct doors, way, TRDP_SLOT_REAL64) };
 static const struct trdp_slot_dataset doors_dataset =
     TRDP_SLOT_DATASET(struct doors, doors_elements);
 
