@@ -140,6 +140,7 @@ class AsyncSlot:
     replyerror = _awaited(Slot.replyerror)
     confirm = _awaited(Slot.confirm)
     abort = _awaited(Slot.abort)
+    declare = _awaited(Slot.declare)
     reset = _awaited(Slot.reset)
     begin = _awaited(Slot.begin)
     sync = _awaited(Slot.sync)

@@ -8,9 +8,10 @@ from typing import Self
 
 from ._client import Client, one_at_a_time
 from ._datasets import Datasets
+from ._declaring import declare
 from ._faults import Nobody
 from ._hearing import Hearing
-from ._indications import Lost
+from ._indications import Handle, Lost
 from ._limits import LEASE_MOST, SLOTS_MOST
 from ._message_calls import MessageCalls
 from ._place import socket_path, where_is
@@ -127,6 +128,16 @@ class Slot(ProcessCalls, MessageCalls, Hearing):
         self._asking.make_sure()
         self._asking.reset_slot(self._terms.tries_of(tries))
         self._objects.forget_all()
+
+    @one_at_a_time
+    def declare(self, path: str | os.PathLike[str], *, tries: int = 1) -> dict[str, Handle]:
+        """Makes the objects of a file, such as `trdp-import` writes, and returns them by their names. Its lines are
+        `publish`, `subscribe`, `openpull` and `listen`, each with a remark `# NAME` right before it. With `restore`
+        they are made again like any other object.
+
+        Raises OSError, and ConfigFault if the file isn't such a one; then nothing is made. If the node refuses a call,
+        those before it are ended, and Refused has its line. A second try may make a second object."""
+        return declare(self._calls, path, tries)
 
     @one_at_a_time
     def begin(self) -> None:

@@ -24,7 +24,7 @@ WORDS: dict[str, tuple[Any, ...]] = {
     "unlisten": (1,), "notify": (1, f"{DEVICE}:{MD}"), "request": (1, f"{DEVICE}:{MD}"), "reply": (1, 1),
     "query": (1, 1), "replyerror": (1, 1, -1), "confirm": (1, f"{DEVICE}:{MD}"), "abort": (1,), "reset": (),
     "indications": (0,), "next_indication": (0,), "on": (Silent, print), "run": (0,), "begin": (), "sync": (),
-    "check": (), "send_line": ("#",), "read_line": (0,), "fileno": ()}
+    "check": (), "declare": ("nowhere",), "send_line": ("#",), "read_line": (0,), "fileno": ()}
 OPERATORS: dict[str, tuple[Any, ...]] = {
     "topology": (1, 1), "role": (1, True), "addslot": (), "totals": (), "slots": ()}
 OPEN = {"close", "look"}
