@@ -22,7 +22,7 @@ sys.path.insert(0, str(TOP / "package"))
 from version import SOURCE as VERSION_FILE  # noqa: E402
 from version import program_version  # noqa: E402
 
-TOOLS = ["trdp_dump", "trdp_lua", "trdp_send", "trdp_structs", "trdp_telegram", "trdp_words"]
+TOOLS = ["trdp_dump", "trdp_import", "trdp_lua", "trdp_send", "trdp_structs", "trdp_telegram", "trdp_words"]
 MISSING = [it for it in ("pip", "setuptools", "venv", "wheel") if importlib.util.find_spec(it) is None]
 PORT_HOME = "127.0.8.23"
 # The first telegram of comId 100 with the dataset 0a0b.
@@ -104,7 +104,8 @@ class Install(unittest.TestCase):
     def test_the_wheel_has_the_modules_and_says_that_they_have_types(self) -> None:
         with zipfile.ZipFile(self.wheel) as wheel:
             names = {it for it in wheel.namelist() if ".dist-info/" not in it}
-        client = {f"trdp_slot/{it.name}" for it in (PYTHON / "trdp_slot").glob("*.py")} | {"trdp_slot/py.typed"}
+        client = {f"{folder}/{it.name}" for folder in ("trdp_device", "trdp_slot")
+                  for pattern in ("*.py", "py.typed") for it in (PYTHON / folder).glob(pattern)}
         self.assertEqual(names, client | {f"{it}/{file}" for it in TOOLS for file in ("__init__.py", "py.typed")})
 
     def test_the_modules_are_there_by_their_names(self) -> None:
@@ -130,11 +131,12 @@ class Install(unittest.TestCase):
             self.assertRegex(ran.stderr, f"^setup.py: {re.escape(str(version))}.*{said}")
 
     def test_help(self) -> None:
-        for name in ("trdp-dump", "trdp-lua", "trdp-send", "trdp-structs"):
+        for name in ("trdp-dump", "trdp-import", "trdp-lua", "trdp-send", "trdp-structs"):
             self.assertTrue(run([self.bin(name), "--help"], self.folder).startswith(f"usage: {name} "))
 
     def test_a_tool_says_its_name(self) -> None:
-        for name, status in (("trdp-dump", 2), ("trdp-lua", 1), ("trdp-send", 2), ("trdp-structs", 1)):
+        for name, status in (("trdp-dump", 2), ("trdp-import", 2), ("trdp-lua", 1), ("trdp-send", 2),
+                             ("trdp-structs", 1)):
             line = [self.bin(name), "nowhere"]
             ran = subprocess.run(line, cwd=self.folder, capture_output=True, text=True, timeout=20)
             self.assertEqual((ran.returncode, ran.stderr[:len(name) + 2]), (status, f"{name}: "))
