@@ -29,6 +29,7 @@ PARTS = ("run", "README.md", "CHANGELOG.md", "CONTRIBUTING.md", "SECURITY.md", "
          "crates/trdpd/src", "package", "docs", "examples", "clients", "wireshark")
 MODULES = "usr/lib/python3/dist-packages"
 DOOR = "usr/share/doc/trdpd/examples/control/door.toml"
+DEVICE = "usr/share/doc/trdpd/examples/import/doors.xml"
 C_PROGRAM = """\
 #include <trdp_slot.h>
 int main(void) { return sizeof(struct trdp_slot) == 0; }
@@ -179,12 +180,14 @@ def look_into(folder: pathlib.Path) -> None:
     modules = f"{folder}/{MODULES}"
     look_at(["usr/bin/trdpd", "check", "etc/trdpd/node.toml"], folder, "node 127.0.0.1: process data at port 17224")
     look_at_installed_node(folder)
-    for tool in ("trdp-dump", "trdp-lua", "trdp-send", "trdp-structs"):
+    for tool in ("trdp-dump", "trdp-import", "trdp-lua", "trdp-send", "trdp-structs"):
         look_at([sys.executable, f"usr/bin/{tool}", "--help"], folder, f"usage: {tool} ", PYTHONPATH=modules)
         look_at_page(folder, tool)
     look_at([sys.executable, "-c", "import trdp_slot"], folder, "", PYTHONPATH=modules)
     look_at([sys.executable, "usr/bin/trdp-lua", DOOR], folder, "-- The datasets of comIds", PYTHONPATH=modules)
     look_at([sys.executable, "usr/bin/trdp-structs", DOOR], folder, "/* The datasets of door.toml", PYTHONPATH=modules)
+    look_at([sys.executable, "usr/bin/trdp-import", DEVICE, "-o", "imported"], folder, "note: line 7, the name 'door-",
+            PYTHONPATH=modules)
     if shutil.which("bash"):
         look_at(["bash", "-c", COMPLETE], folder, "--lease\nserve\n")
     else:

@@ -14,7 +14,10 @@ DOC = "usr/share/doc/trdpd"
 MODULES = "usr/lib/python3/dist-packages"
 PLUGINS = "usr/lib/x86_64-linux-gnu/wireshark/plugins"
 # The tools that are commands, and the module of each.
-TOOLS = {"trdp-dump": "trdp_dump", "trdp-lua": "trdp_lua", "trdp-send": "trdp_send", "trdp-structs": "trdp_structs"}
+TOOLS = {"trdp-dump": "trdp_dump", "trdp-import": "trdp_import", "trdp-lua": "trdp_lua", "trdp-send": "trdp_send",
+         "trdp-structs": "trdp_structs"}
+# The folders that are packages of Python, each with its types.
+FOLDERS = ("trdp_device", "trdp_slot")
 # Debian's packages of the libraries, and how their versions begin in an ELF file.
 PACKAGES = {
     "libc.so.6": ("libc6", "GLIBC_"), "libm.so.6": ("libc6", "GLIBC_"), "ld-linux-x86-64.so.2": ("libc6", "GLIBC_"),
@@ -136,8 +139,8 @@ def client_files(number: str) -> Iterator[File]:
                         ("cmake/TrdpSlot/TrdpSlotConfigVersion.cmake", "TrdpSlotConfigVersion.cmake.in")):
         yield File(f"usr/share/{place}", filled(name, IN_C, VERSION=number, MAJOR=major).encode())
     python = TOP / "clients" / "python"
-    for path in [*(python / "trdp_slot").glob("*.py"), python / "trdp_slot" / "py.typed"]:
-        yield File(f"{MODULES}/trdp_slot/{path.name}", path.read_bytes())
+    for path in [it for folder in FOLDERS for it in [*(python / folder).glob("*.py"), python / folder / "py.typed"]]:
+        yield File(f"{MODULES}/{path.parent.name}/{path.name}", path.read_bytes())
     for path in python.glob("trdp_*.py"):
         # Only a folder can say that a module has types, by its file py.typed. What is imported from it is no command.
         module = path.read_text("utf-8").removeprefix("#!/usr/bin/env python3\n")

@@ -17,10 +17,10 @@ from pages import Block, Folder, Step, blocks, pattern
 from testing import TOP, has_groups, wait_until
 
 PAGES = ("CLIENTS", "PYTHON", "C")
-ADDRESSES = {"127.0.0.1": "127.0.8.30", "127.0.0.2": "127.0.8.31", "127.0.0.3": "127.0.8.34", "127.0.9.": "127.0.8.",
-             "0x7f000002": "0x7f00081f", "239.192.0.1": "239.192.8.34"}
+ADDRESSES = {"127.0.0.1": "127.0.8.30", "127.0.0.2": "127.0.8.31", "127.0.0.3": "127.0.8.34", "127.0.0.4": "127.0.8.35",
+             "127.0.9.": "127.0.8.", "0x7f000002": "0x7f00081f", "239.192.0.1": "239.192.8.34"}
 # How long a client waits for an answer: as it is written, and how it is here, where a daemon may stand still.
-WAITS = [(r'(Slot(?:\.look)?\("\w+\.toml", 0)', r"\1, answer_us=10_000_000"),
+WAITS = [(r'(Slot(?:\.look)?\("[\w/]+\.toml", 0)', r"\1, answer_us=10_000_000"),
          (r"\.timeout = 200\b", ".timeout = 10000")]
 COUNTS = re.compile(r"(?<=counter=)\d+")
 
@@ -56,10 +56,10 @@ class Pages(unittest.TestCase):
         self.folder = Folder(["clients/python", "wireshark"])
         self.addCleanup(self.folder.close)
         self.top = self.folder.path
-        for name in ("examples/control", "clients/c"):
+        for name in ("examples/control", "examples/import", "clients/c"):
             (self.top / name).mkdir(parents=True)
             for file in (TOP / name).iterdir():
-                if file.suffix in (".toml", ".c", ".h"):
+                if file.suffix in (".toml", ".xml", ".c", ".h"):
                     (self.top / name / file.name).write_text(patient(here(file.read_text())))
         self.blocks = [it for page in PAGES for it in blocks(here((TOP / f"docs/{page}.md").read_text()))]
 
@@ -125,6 +125,7 @@ class Pages(unittest.TestCase):
         self.structs()
         self.paths()
         self.controls()
+        self.imports()
 
     def programs(self) -> None:
         """The two programs in Python, at their first run, and one that looks."""
@@ -260,3 +261,14 @@ class Pages(unittest.TestCase):
         for _ in range(20):
             process = self.begin(again.text)
             self.assertEqual((process.communicate(timeout=60)[0].splitlines(), process.returncode), (again.shown, 1))
+
+    def imports(self) -> None:
+        """Two XML files are imported, and a value goes from one node to the other."""
+        self.folder.end_all()
+        listing, daemons = self.steps("$ grep -h '^[ps]'")
+        for step in (*self.steps("$ clients/python/trdp_import.py"), listing):
+            self.prints(step)
+        self.start_daemons(daemons.text)
+        self.write("imported.py", 'from trdp_slot import Slot\n\nwith (Slot("doors/node.toml"')
+        shown, = self.steps("$ PYTHONPATH=clients/python python3 imported.py")
+        self.prints_at_last(shown)

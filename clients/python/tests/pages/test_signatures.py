@@ -39,7 +39,7 @@ class Signatures(unittest.TestCase):
         for owner, block in zip((Slot, Operator), blocks):
             for name, words in listed(block).items():
                 self.assertEqual(words, arguments(getattr(owner, name)), name)
-        self.assertEqual((len(listed(blocks[0])), len(listed(blocks[1]))), (19, 5))
+        self.assertEqual((len(listed(blocks[0])), len(listed(blocks[1]))), (20, 5))
 
     def test_indications(self) -> None:
         block, = lists("Indications")
