@@ -105,16 +105,17 @@ def parse(words: list[str] | None) -> argparse.Namespace:
 
 
 def main(words: list[str] | None = None) -> int:
-    """Exit status 0, 1 where the file can't be read, 2 for other words."""
+    """Exit status 0, 1 where the file can't be read or nothing can be written, 2 for other words."""
     asked = parse(words)
     try:
         datasets = trdp_words.datasets_of(asked.file)
+        if not datasets.com_ids:
+            print(f"{NAME}: {asked.file} has no [[telegram]] tables, so that no comId has a dataset", file=sys.stderr)
+        trdp_words.write_file(lua_table(datasets))
     except (OSError, ValueError) as fault:
+        trdp_words.drop_output()
         print(f"{NAME}: {trdp_words.sentence(fault)}", file=sys.stderr)
         return 1
-    if not datasets.com_ids:
-        print(f"{NAME}: {asked.file} has no [[telegram]] tables, so that no comId has a dataset", file=sys.stderr)
-    sys.stdout.write(lua_table(datasets))
     return 0
 
 

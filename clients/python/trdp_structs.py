@@ -11,7 +11,6 @@ without one element_2, by its position from 0. A name that can't be an identifie
 from __future__ import annotations
 
 import functools
-import io
 import os
 import re
 import sys
@@ -27,6 +26,16 @@ ROOM = 64
 """How many items an array with a count has room for, if --room doesn't say."""
 
 
+C_TYPES = {
+    "BOOL8": "uint8_t", "BITSET8": "uint8_t", "ANTIVALENT8": "uint8_t", "CHAR8": "char", "UTF16": "uint16_t",
+    "INT8": "int8_t", "INT16": "int16_t", "INT32": "int32_t", "INT64": "int64_t",
+    "UINT8": "uint8_t", "UINT16": "uint16_t", "UINT32": "uint32_t", "UINT64": "uint64_t",
+    "REAL32": "float", "REAL64": "double", "TIMEDATE32": "uint32_t",
+    "TIMEDATE48": "struct trdp_slot_timedate48", "TIMEDATE64": "struct trdp_slot_timedate64",
+}
+"""The type of a member for a value of a basic type."""
+
+
 class Language(NamedTuple):
     """What a language takes from the names, besides its keywords."""
 
@@ -38,8 +47,23 @@ class Language(NamedTuple):
     """Whether an element hides the dataset that has its name, from itself and the elements after it."""
 
 
-C = Language(frozenset("flock iovec linger stat timespec timeval tm trdp_slot".split()), frozenset(), hides=False)
-"""A dataset can't have the name of a struct in the headers that its own header includes."""
+class CWords(frozenset[str]):
+    """Words of C's headers: these; all that begin with trdp_slot, in any case; and all that end in _t, as types do."""
+
+    def __contains__(self, word: object) -> bool:
+        is_of_a_rule = isinstance(word, str) and (word.lower().startswith("trdp_slot") or word.endswith("_t"))
+        return is_of_a_rule or super().__contains__(word)
+
+
+C_STRUCTS = """
+    cmsghdr f_owner_ex fd_mask fd_set file_handle flock flock64 group_filter group_req group_source_req in6_addr
+    in6_pktinfo in_addr in_pktinfo iovec ip6_mtuinfo ip_mreq ip_mreq_source ip_mreqn ip_msfilter ip_opts ipv6_mreq
+    itimerspec linger mmsghdr msghdr osockaddr pollfd sockaddr sockaddr_in sockaddr_in6 sockaddr_storage sockaddr_un
+    stat stat64 timespec timeval timex tm u_char u_int u_long u_short ucred uint ulong ushort
+"""
+C = Language(CWords(C_STRUCTS.split()), frozenset(it for it in C_TYPES.values() if it.endswith("_t")), hides=False)
+"""A dataset can't have the name of a struct in the headers that its own header includes, nor in C++ that of a type. In
+C++ an element can't have the name of a type that the struct uses."""
 
 PYTHON_WORDS = frozenset("Any ClassVar Mapping TimeDate48 TimeDate64 dataclass field list str".split())
 VARIABLES = frozenset(("trdp_classes", "trdp_dataset", "trdp_elements"))
@@ -118,22 +142,8 @@ def remark_of(element: Element) -> str:
     offset = "" if element.offset == 0 else f" {'+' if element.offset > 0 else '-'} {abs(element.offset):.15g}"
     shown = f"raw{scale}{offset}" if scale or offset else ""
     coded = "1 is false, 2 is true" if element.as_ == "ANTIVALENT8" else ""
-    return ": ".join(filter(None, (element.unit, shown or coded)))
+    return ": ".join(filter(None, (trdp_words.printable(element.unit), shown or coded)))
 
-
-def printable(name: str) -> str:
-    """The name of a file, in one line."""
-    return name if name.isprintable() else ascii(name)
-
-
-C_TYPES = {
-    "BOOL8": "uint8_t", "BITSET8": "uint8_t", "ANTIVALENT8": "uint8_t", "CHAR8": "char", "UTF16": "uint16_t",
-    "INT8": "int8_t", "INT16": "int16_t", "INT32": "int32_t", "INT64": "int64_t",
-    "UINT8": "uint8_t", "UINT16": "uint16_t", "UINT32": "uint32_t", "UINT64": "uint64_t",
-    "REAL32": "float", "REAL64": "double", "TIMEDATE32": "uint32_t",
-    "TIMEDATE48": "struct trdp_slot_timedate48", "TIMEDATE64": "struct trdp_slot_timedate64",
-}
-"""The type of a member for a value of a basic type."""
 
 C_NUMBERS = {"BITSET8": "BOOL8", "ANTIVALENT8": "BOOL8"}
 """The types whose constants are those of another type."""
@@ -143,7 +153,7 @@ def c_header(structs: Structs, file: str, room: int) -> str:
     """The header for the datasets of a file, whose arrays with a count have that room."""
     name = os.path.basename(file)
     guard = f"TRDP_STRUCTS_{re.sub('[^A-Za-z0-9]', '_', name).upper()}_H"
-    parts = [c_comment(f"The datasets of {printable(name)}, for trdp_slot.h. Written by trdp-structs.")
+    parts = [c_comment(f"The datasets of {trdp_words.printable(name)}, for trdp_slot.h. Written by trdp-structs.")
              + f"\n#ifndef {guard}\n#define {guard}\n\n#include \"trdp_slot.h\"\n"]
     parts += [c_struct(structs, it, room) for it in structs.values()]
     return "\n".join([*parts, "#endif\n"])
@@ -203,7 +213,7 @@ def python_module(structs: Structs, file: str) -> str:
     classes = [python_class(structs, it) for it in structs.values()]
     written = "".join(classes)
     times = [it for it in ("TimeDate48", "TimeDate64") if f"{it}(" in written]
-    name = printable(os.path.basename(file))
+    name = trdp_words.printable(os.path.basename(file))
     lines = [f"# The datasets of {name} as dataclasses, for trdp_slot. Written by trdp-structs.",
              "from __future__ import annotations", "", "from collections.abc import Mapping",
              f"from dataclasses import dataclass{', field' if 'field(' in written else ''}",
@@ -281,13 +291,6 @@ def parser() -> trdp_words.Words:
     return words
 
 
-def write(text: str) -> None:
-    """Writes a text to standard output, in UTF-8 as compilers expect it."""
-    if isinstance(sys.stdout, io.TextIOWrapper):
-        sys.stdout.reconfigure(encoding="utf-8")
-    print(text, end="", flush=True)
-
-
 def main(words: list[str] | None = None) -> int:
     """Exit status 0, 1 if the file can't be read or nothing can be written, 2 for wrong words."""
     asked = parser().parse_args(words)
@@ -296,9 +299,9 @@ def main(words: list[str] | None = None) -> int:
         if not datasets.elements:
             print(f"{NAME}: {asked.file} has no [[dataset]] tables", file=sys.stderr)
         if asked.python:
-            write(python_module(structs_of(datasets, PYTHON), asked.file))
+            trdp_words.write_file(python_module(structs_of(datasets, PYTHON), asked.file))
         else:
-            write(c_header(structs_of(datasets, C), asked.file, asked.room))
+            trdp_words.write_file(c_header(structs_of(datasets, C), asked.file, asked.room))
     except (OSError, ValueError) as fault:
         trdp_words.drop_output()
         print(f"{NAME}: {trdp_words.sentence(fault)}", file=sys.stderr)

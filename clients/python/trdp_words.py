@@ -126,7 +126,7 @@ def shown(text: str) -> str:
 
 def printable(text: str) -> str:
     """A text, in which what can't be printed is as Python writes it: no control character gets to a terminal."""
-    return "".join(it if it.isprintable() else repr(it)[1:-1] for it in text)
+    return text if text.isprintable() else "".join(it if it.isprintable() else repr(it)[1:-1] for it in text)
 
 
 def name_word(name: str) -> str:
@@ -152,6 +152,13 @@ def escape_output() -> None:
     """Has standard output escape the letters that its encoding lacks: else they are a fault."""
     if isinstance(sys.stdout, io.TextIOWrapper):
         sys.stdout.reconfigure(errors="backslashreplace")
+
+
+def write_file(text: str) -> None:
+    """Writes the text of a file to standard output, in UTF-8. Raises OSError."""
+    if isinstance(sys.stdout, io.TextIOWrapper):
+        sys.stdout.reconfigure(encoding="utf-8")
+    print(text, end="", flush=True)
 
 
 def drop_output() -> None:

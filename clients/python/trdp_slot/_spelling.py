@@ -18,7 +18,7 @@ C_WORDS = frozenset("""
     double else enum extern false float for goto if inline int long nullptr register restrict return short
     signed sizeof static static_assert struct switch thread_local true typedef typeof typeof_unqual union unsigned void
     volatile while
-    errno linux unix
+    errno linux s6_addr st_atime st_ctime st_mtime unix
 """.split())
 """The keywords of C99 to C23, and macros in small letters, which the compiler or a header of the system defines."""
 

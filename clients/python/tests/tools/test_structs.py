@@ -156,6 +156,18 @@ element = [{ type = 1002, name = "door" }, { type = "UINT32" }, { type = "CHAR8"
 [[dataset]]
 id = 4294967295
 element = [{ type = 1003, size = 2 }, { type = "UINT8" }, { type = "BOOL8", size = 0 }]
+[[dataset]]
+id = 1004
+name = "uint8_t"
+element = [{ type = "UINT8", name = "uint8_t", unit = "\\u202e" }, { type = "UINT8", name = "st_mtime" }]
+[[dataset]]
+id = 1005
+name = "trdp_slot_value"
+element = [{ type = 1004 }]
+[[dataset]]
+id = 1006
+name = "sockaddr"
+element = [{ type = 1005 }]
 """
 STRICT = "-Wall -Wextra -Wpedantic -Wconversion -Wsign-conversion -Wshadow -Werror -fsyntax-only".split()
 COMPILERS = {"gcc": ("c99", "c11", "gnu99"), "clang": ("c99", "gnu17"), "g++": ("c++11", "c++2b"),
@@ -223,7 +235,7 @@ class Structs(unittest.TestCase):
         """Each compiler takes the header of hard names, without a warning, in C and in C++."""
         self.file("hard.h", run(self.hard)[1])
         uses = "".join(f"    (void){name}_dataset;\n    (void){name}_number;\n"
-                       for name in ("stat_", "door", "Door_2", "dataset_4294967295"))
+                       for name in ("stat_", "door", "Door_2", "dataset_4294967295", "sockaddr_"))
         program = f'#include "hard.h"\n#include "hard.h"\nint main(void)\n{{\n{uses}    return 0;\n}}\n'
         tried = 0
         for compiler, versions in COMPILERS.items():
@@ -240,7 +252,8 @@ class Structs(unittest.TestCase):
         """The zero value of each dataclass has the bytes of the dataset's zero value, whatever the names are."""
         module = self.module(self.hard)
         datasets = Datasets.from_toml(self.hard)
-        for name, number in {"stat": 1001, "door": 1002, "Door_2": 1003, "dataset_4294967295": 4294967295}.items():
+        for name, number in {"stat": 1001, "door": 1002, "Door_2": 1003, "dataset_4294967295": 4294967295,
+                             "sockaddr": 1006}.items():
             zero = getattr(module, name)()
             self.assertEqual(datasets.pack(number, zero), bytes(datasets.zero_size(number)), name)
             self.assertEqual(datasets.unpack(number, bytes(datasets.zero_size(number)), into=type(zero)), zero, name)

@@ -231,6 +231,10 @@ class Traps(Case):
                 dump.stderr.readline()
                 out.sendto(telegram, (DUMP, 17224))
                 self.assertEqual(dump.stderr.read().splitlines(), [said])
+        with open("/dev/full", "w") as full:
+            ran = subprocess.run([sys.executable, str(PYTHON / "trdp_lua.py"), "node.toml"], stdout=full,
+                                 stderr=subprocess.PIPE, text=True, timeout=60)
+        self.assertEqual((ran.returncode, ran.stderr), (1, "trdp_lua.py: No space left on device\n"))
 
 
 def packet_of(data: bytes, length: int | None = None, words: int = 5, version: int = 4) -> bytes:
