@@ -69,10 +69,18 @@ def uri_of(text: str) -> bytes:
     return data
 
 
+class Reals(ast.NodeTransformer):
+    """Makes numbers of the words `inf` and `nan`, which Python writes and doesn't read."""
+
+    def visit_Name(self, node: ast.Name) -> ast.expr:
+        """A word that stands alone."""
+        return ast.Constant(float(node.id)) if node.id in ("inf", "nan") else node
+
+
 def value_of(text: str) -> Any:
-    """A value as Python writes it: numbers, tuples and lists."""
+    """A value as Python writes it: numbers, texts, tuples, lists and dicts."""
     try:
-        return ast.literal_eval(text)
+        return ast.literal_eval(Reals().visit(ast.parse(text.lstrip(" \t"), mode="eval")))
     except (SyntaxError, ValueError, TypeError, MemoryError, RecursionError):
         raise argparse.ArgumentTypeError(
             f"{trdp_words.shown(text)} is no value, as [4, [0, 0, 0, 0], 0]") from None

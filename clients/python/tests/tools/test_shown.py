@@ -15,6 +15,7 @@ from unittest import mock
 
 import trdp_dump
 import trdp_lua
+import trdp_send
 import trdp_telegram
 import trdp_words
 from test_tools import Dump
@@ -184,6 +185,11 @@ class Readings(unittest.TestCase):
         """A name is one word of a line, and all of it can be printed."""
         for name, word in NAMES:
             self.assertEqual(trdp_words.name_word(name), word)
+
+    def test_reals_are_typed_as_they_are_shown(self) -> None:
+        """trdp_send.py takes an infinity and a NaN by the words of a line, which Python doesn't read."""
+        text = "{'load': [inf, -inf, nan], 'inf': 0.5}"
+        self.assertEqual(repr(trdp_send.value_of(text)), text)
 
     def test_random_payloads(self) -> None:
         """No payload has a line print what can't be printed."""
