@@ -148,11 +148,13 @@ class Datasets:
         dataset, then.
 
         Raises DoesNotFit, with the place in the dataset, where the bytes are no value: too few, or some left over; or
-        where `into` is of another dataset. TypeError where it is no such class, and KeyError where there is no such
-        dataset."""
+        where `into` is of another dataset, or of one that isn't known here. TypeError where it is no such class, and
+        KeyError where there is no such dataset."""
         if into is not None:
             must_be_class(into)
             number = number or into.trdp_dataset
+            if number not in self:
+                raise DoesNotFit(f"dataset {number}: it isn't known here, so that {into.__name__} can't be filled")
         return bytes(data) if number == 0 else self._whole(number, data, lambda: self._unpacker(number, into))
 
     def _whole(self, number: int, data: bytes, of: Callable[[], Unpacker]) -> Any:
@@ -186,11 +188,12 @@ class Datasets:
 
     def of_message(self, told: Notified | Asked | Replied, *, into: type[Any] | None = None) -> Any:
         """The value of a message that the node reports, by the dataset of its comId; its bytes where no table
-        `[[telegram]]` says one. The node doesn't look at it: raises DoesNotFit where it is none, and TypeError where
-        an indication is no message."""
+        `[[telegram]]` says one, and of an error, which has no value. The node doesn't look at it: raises DoesNotFit
+        where it is none, and TypeError where an indication is no message."""
         if not isinstance(told, (Notified, Asked, Replied)):
             raise TypeError(f"{shown(told)} is no message")
-        return self.unpack(self.com_ids.get(told.com_id, 0), told.payload, into=into)
+        is_error = isinstance(told, Replied) and told.kind == "Me"
+        return self.unpack(0 if is_error else self.com_ids.get(told.com_id, 0), told.payload, into=into)
 
     @staticmethod
     def time(value: int | tuple[int, int]) -> datetime.datetime:

@@ -106,33 +106,44 @@ class MeantItem(NumberItem):
 
     def unpack_all(self, data: bytes, offset: int, count: int) -> tuple[list[Any], int]:
         numbers, end = super().unpack_all(data, offset, count)
-        return [self._meanings.get(it, it) for it in numbers], end
+        return [self._meanings.get(it, it) for it in numbers] if self._meanings else numbers, end
 
 
 class BitsItem(NumberItem):
-    """A REAL in a list: its bits as a whole number. A float is taken, too."""
+    """A REAL in a list: its bits as a whole number. What is no whole number is taken as by names."""
 
     def __init__(self, kind: str, number: Number) -> None:
         super().__init__(kind, number)
         self._real = RealItem(kind)
 
     def pack(self, value: Any) -> bytes:
-        return self._real.pack(value) if isinstance(value, float) else super().pack(value)
+        return super().pack(value) if hasattr(value, "__index__") else self._real.pack(value)
+
+    def pack_all(self, values: Sequence[Any]) -> bytes:
+        return self._real.pack_all(values) if set(map(type, values)) == {float} else super().pack_all(values)
 
 
 class RealItem(Item):
-    """A REAL by names: a float."""
+    """A REAL by names: a float, or what Python makes a float of, such as a whole number. A bool or a text is none."""
 
     def __init__(self, kind: str) -> None:
         super().__init__(kind, REAL_CODES[kind])
 
     def pack(self, value: Any) -> bytes:
-        if not isinstance(value, (int, float)) or isinstance(value, bool):
+        if isinstance(value, bool) or not hasattr(value, "__float__"):
             raise Misfit(f"{shown(value)} is no {self.kind}")
         try:
             return self._struct.pack(value)
         except (struct.error, OverflowError):
             raise Misfit(f"{shown(value)} is beyond {self.kind}") from None
+
+    def pack_all(self, values: Sequence[Any]) -> bytes:
+        try:
+            if bool not in set(map(type, values)):
+                return struct.pack(f">{len(values)}{self._code}", *values)
+        except (struct.error, OverflowError):
+            pass
+        return super().pack_all(values)
 
     def unpack_all(self, data: bytes, offset: int, count: int) -> tuple[list[Any], int]:
         end = self._end(data, offset, count)

@@ -55,10 +55,10 @@ def dataset_tables(config: Mapping[str, Any]) -> list[DatasetTable]:
         number = config_number(table, "id", FIRST_DATASET, U32_MOST, None, f"dataset[{index}]: ")
         if number in found:
             raise ConfigFault(f"dataset {number} is there twice")
-        where = f"dataset {number}"
-        elements = tuple(element_of(it, f"{where}, element {at}: ") for at, it in enumerate(tables(table, "element")))
-        if not 0 < len(elements) <= ELEMENTS_MOST:
-            raise ConfigFault(f"{where} has {len(elements)} elements, and not 1 to {ELEMENTS_MOST}")
+        where, of = f"dataset {number}", tables(table, "element")
+        if not 0 < len(of) <= ELEMENTS_MOST:
+            raise ConfigFault(f"{where} has {len(of)} elements, and not 1 to {ELEMENTS_MOST}")
+        elements = tuple(element_of(it, f"{where}, element {at}: ") for at, it in enumerate(of))
         found[number] = DatasetTable(number, name_at(table, f"{where}: "), elements)
     return list(found.values())
 

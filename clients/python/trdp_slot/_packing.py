@@ -84,6 +84,9 @@ class Text(Array):
 
 Step = Single | Array
 
+# The count that a value doesn't have.
+LEFT_OUT: Any = object()
+
 
 class Picker:
     """Puts what a value has by keys into the order of the elements: a dict by names, or an instance by fields."""
@@ -91,7 +94,7 @@ class Picker:
     def __init__(self, keys: Sequence[str | None], steps: Sequence[Step], elements: Sequence[Element],
                  getter: Callable[..., Callable[[Any], Any]], get: Callable[[Any, str], Any]) -> None:
         """By the key of each element, of which only counts may have none. `getter` makes what finds the entries of
-        keys, and `get` finds that of one, or None."""
+        keys, and `get` finds that of one, or LEFT_OUT."""
         arrays = {at - 1: step for at, step in enumerate(steps) if isinstance(step, Array) and elements[at].size == 0}
         self.wanted = [key for index, key in enumerate(keys) if key is not None and index not in arrays]
         self.whole = None if None in keys else tuple_by(getter, keys)
@@ -99,14 +102,15 @@ class Picker:
         self._get = get
         self._counts = [(index, keys[index], array) for index, array in arrays.items()]
 
-    def entries(self, value: Any) -> Sequence[Any]:
-        """The entries of a value that may lack counts: such a one is the length of the array behind it. Of one that
-        lacks none, `whole` finds them sooner. Both raise what `getter` makes them raise."""
+    def entries(self, value: Any, has_counts: bool) -> Sequence[Any]:
+        """The entries of a value that may lack counts: such a one is the length of the array behind it. `has_counts` is
+        whether it may have some. Of one that lacks none, `whole` finds them sooner. Both raise what `getter` makes them
+        raise."""
         entries = list(self._find(value))
         for index, key, array in self._counts:
             # The counts before this one are in their places by now, so its array is where it will be itself.
-            count = None if key is None else self._get(value, key)
-            entries.insert(index, array.count(entries[index]) if count is None else count)
+            count = self._get(value, key) if has_counts and key is not None else LEFT_OUT
+            entries.insert(index, array.count(entries[index]) if count is LEFT_OUT else count)
         return entries
 
 
@@ -117,8 +121,8 @@ def tuple_by(getter: Callable[..., Callable[[Any], Any]], keys: Sequence[str | N
 
 
 def found(value: Mapping[str, Any], name: str) -> Any:
-    """What a dict has by that name, or None."""
-    return value.get(name)
+    """What a dict has by that name, or LEFT_OUT."""
+    return value.get(name, LEFT_OUT)
 
 
 class Packer(Packs):
@@ -139,12 +143,15 @@ class Packer(Packs):
 
     def pack(self, value: Any) -> bytes:
         entries: Sequence[Any]
-        if isinstance(value, (list, tuple)):
+        if type(value) is dict:
+            steps, entries = self._by_keys, self._named(value)
+        elif isinstance(value, (list, tuple)):
             if len(value) != len(self._elements):
                 raise Misfit(f"the list has {len(value)} entries, and not {len(self._elements)}")
             steps, entries = self._in_lists, value
-        elif isinstance(value, (dict, Mapping)):
-            steps, entries = self._by_keys, self._named(value)
+        elif isinstance(value, Mapping):
+            # A defaultdict, which is the caller's, would get each name that is looked for.
+            steps, entries = self._by_keys, self._named(dict(value))
         else:
             steps, entries = self._by_keys, self._fielded(value)
         parts = []
@@ -165,10 +172,11 @@ class Packer(Packs):
         try:
             if picker.whole is not None and len(value) == len(self._elements):
                 return picker.whole(value)
-            entries = picker.entries(value)
+            has_more = len(value) != len(picker.wanted)
+            entries = picker.entries(value, has_more)
         except KeyError:
             raise wrong_names(value, picker.wanted, self._names) from None
-        if len(value) != len(picker.wanted) and not value.keys() <= self._names:
+        if has_more and not value.keys() <= self._names:
             raise wrong_names(value, picker.wanted, self._names)
         return entries
 
@@ -181,7 +189,7 @@ class Packer(Packs):
             fields = fields_of(kind, self._number, self._elements)
             self._by_fields[kind] = Picker(fields, self._by_keys, self._elements, operator.attrgetter, getattr)
         picker = self._by_fields[kind]
-        return picker.whole(value) if picker.whole is not None else picker.entries(value)
+        return picker.whole(value) if picker.whole is not None else picker.entries(value, True)
 
 
 def step_of(element: Element, is_raw: bool, inner: Callable[[int], Packs]) -> Step:

@@ -8,6 +8,7 @@ shown raw: its numbers aren't taken for a bool or a text.
 from __future__ import annotations
 
 import decimal
+import functools
 import struct
 from collections.abc import Sequence
 from typing import Any
@@ -32,6 +33,7 @@ def is_read_raw(element: Element) -> bool:
     return is_plain or is_scaled(element) and element.as_ not in REAL_CODES
 
 
+@functools.cache
 def decimals_of(element: Element) -> int | None:
     """How many decimals scale and offset have, and so the number that people read. None where these are too many, and
     for a REAL, which has decimals of its own."""

@@ -9,6 +9,8 @@ def shown(value: Any) -> str:
         text = repr(value)
     except ValueError:
         text = f"a {type(value).__name__} of very many digits"
+    except RecursionError:
+        text = f"a {type(value).__name__} that nests very deep"
     return text if len(text) <= 40 else text[:37] + "..."
 
 

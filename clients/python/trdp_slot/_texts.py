@@ -24,8 +24,11 @@ def text_bytes(kind: str | int, text: str) -> bytes:
 def text_of(kind: str | int, data: bytes) -> str | None:
     """The text of these bytes, which ends before the first zero; None where they are no text."""
     encoding, width = ENCODINGS[kind]
-    zeros = (it for it in range(0, len(data), width) if not any(data[it:it + width]))
+    end = data.find(bytes(width))
+    while end % width and end > 0:
+        # The zeros are halves of two numbers.
+        end = data.find(bytes(width), end + 1)
     try:
-        return data[:next(zeros, len(data))].decode(encoding)
+        return (data if end < 0 else data[:end]).decode(encoding)
     except UnicodeDecodeError:
         return None

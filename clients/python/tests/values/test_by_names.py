@@ -1,17 +1,20 @@
 """Values by names: dicts, floats, bools, texts and times, and their bytes."""
 from __future__ import annotations
 
+import collections
 import datetime
+import fractions
 import math
 import pickle
 import time
+import types
 import unittest
 import uuid
 from collections.abc import Callable
 from typing import Any
 
 from test_values import datasets
-from trdp_slot import Asked, Datasets, DoesNotFit, Element, Handle, Notified, Silent, TimeDate48, TimeDate64
+from trdp_slot import Asked, Datasets, DoesNotFit, Element, Handle, Notified, Replied, Silent, TimeDate48, TimeDate64
 
 DOORS = datasets("""
 [[dataset]]
@@ -89,7 +92,7 @@ class ByNames(unittest.TestCase):
         without = {key: it for key, it in VALUE.items() if key != "count"}
         lists_within = {**VALUE, "lamp": [2, [0, 1]], "lamps": ({"on": 1, "broken": (True, 7)},)}
         dicts_within = [*LISTS[:3], VALUE["lamp"], 1, VALUE["lamps"]]
-        for value in (LISTS, VALUE, without, lists_within, dicts_within):
+        for value in (LISTS, VALUE, without, lists_within, dicts_within, types.MappingProxyType(VALUE)):
             self.assertEqual(DOORS.pack(40, value), DATA)
         self.assertEqual(DOORS.unpack(40, DATA), VALUE)
         self.assertEqual(of.unpack(40, DATA), LISTS)
@@ -111,6 +114,12 @@ class ByNames(unittest.TestCase):
         of = datasets("[[dataset]]\nid = 40\nelement = [{ type = 10, as = 'REAL32', name = 'it', size = 2 }]")
         self.assertEqual(of.pack(40, [[1, 2.0]]).hex(), "0000000140000000")
         self.assertEqual(of.pack(40, {"it": [1, 2.0]}).hex(), "3f80000040000000")
+
+    def test_what_becomes_a_float(self) -> None:
+        """A number of another class is taken as Python makes a float of it, also in a list."""
+        of = datasets("[[dataset]]\nid = 40\nelement = [{ type = 10, as = 'REAL32', name = 'it', size = 2 }]")
+        for value in ({"it": [fractions.Fraction(1, 2), 2]}, [[fractions.Fraction(1, 2), 2.0]]):
+            self.assertEqual(of.pack(40, value).hex(), "3f00000040000000")
 
     def test_no_number_at_a_real(self) -> None:
         """A NaN is packed; a signalling one may come back as another one by names, and not in a list."""
@@ -166,6 +175,10 @@ class Faults(unittest.TestCase):
         self.check(40, {**VALUE, "sped": 1}, "doors: there is no element 'sped'")
         self.check(40, {**del_speed, "sped": 1}, "doors: there is no element 'sped', and 'speed' is missing")
         self.check(40, {**VALUE, 0: 2}, "doors: there is no element 0")
+        given = collections.defaultdict(list, del_speed)
+        self.check(40, given, "doors: 'speed' is missing")
+        self.assertEqual(given, del_speed)
+        self.check(40, {**VALUE, "count": None}, "doors.count: None is no UINT16, 0 to 65535")
         self.check(40, {**VALUE, "count": 2}, "doors.lamps: the list has 1 entries, and not 2")
         self.check(40, {**VALUE, "state": [0] * 256}, "doors, element 0: 256 is no UINT8, 0 to 255")
         self.check(42, {"x": 1}, "dataset 42: a dict can't say element 1, which has no name: a list can")
@@ -184,6 +197,10 @@ class Faults(unittest.TestCase):
             self.check(40, value, said)
         self.check(42, [0, 65536, [0, [0, 0]]], "dataset 42, element 1: 65536 is no UINT16, 0 to 65535")
         self.check(42, [0, 0, [0, [0, "x"]]], "dataset 42, lamp.broken[1]: 'x' is no BOOL8, 0 to 255")
+        deep: list[Any] = []
+        for _ in range(100_000):
+            deep = [deep]
+        self.check(42, [deep, 0, []], "dataset 42, x: a list that nests very deep is no UINT8, 0 to 255")
         for data, said in [(b"\0\0", "doors.speed: 1 bytes are left, and 1 of REAL32 have 4"),
                            (DATA[:-1], "doors.lamps[0].broken: 1 bytes are left, and 2 of BOOL8 have 2"),
                            (DATA + b"\0", "doors: 1 bytes are left over")]:
@@ -221,6 +238,8 @@ class Meanings(unittest.TestCase):
         asked = Asked(listener, listener, uuid.UUID(int=1), "10.0.0.2:17225", 300, "", "", b"\x02")
         with self.assertRaisesRegex(DoesNotFit, "^dataset 41, broken: 0 bytes are left, and 2 of BOOL8 have 2$"):
             DOORS.of_message(asked)
+        error = Replied(listener, "10.0.0.2:17225", "Me", -1, 300, b"")
+        self.assertEqual(DOORS.of_message(error), b"")
         no_message: Any = Silent(listener)
         self.assertRaisesRegex(TypeError, "^Silent.handle=<listener 1>. is no message$", DOORS.of_message, no_message)
 
@@ -235,16 +254,26 @@ def seconds(act: Callable[[], object]) -> float:
 class Time(unittest.TestCase):
     """How long it takes."""
 
+    def check(self, of: Datasets, in_list: list[Any], by_names: dict[str, Any]) -> None:
+        """Looks at how long it takes to pack a value of dataset 41."""
+        self.assertEqual(of.pack(41, in_list), of.pack(41, by_names))
+        # The least of many tries is that of a machine which does nothing else, and both are tried in turn.
+        tries = [(seconds(lambda: of.pack(41, by_names)), seconds(lambda: of.pack(41, in_list))) for _ in range(1000)]
+        self.assertLess(min(named for named, _ in tries) / min(listed for _, listed in tries), 1.5)
+
     def test_a_dict_takes_at_most_half_longer_than_its_list(self) -> None:
         """So it is for 24 elements, one of which is another dataset."""
         kinds = ["UINT8", "INT16", "UINT32", "BOOL8"]
         inner = [Element(kinds[index % 4], 1, f"signal_{index}") for index in range(4)]
         outer = [*(Element(kinds[index % 4], 1, f"signal_{index}") for index in range(23)), Element(40, 1, "inner")]
-        of = Datasets({40: inner, 41: outer})
-        in_list = [*[1] * 23, [1] * 4]
         by_names: dict[str, Any] = {f"signal_{index}": 1 for index in range(23)}
         by_names["inner"] = {f"signal_{index}": 1 for index in range(4)}
-        self.assertEqual(of.pack(41, in_list), of.pack(41, by_names))
-        # The least of many tries is that of a machine which does nothing else, and both are tried in turn.
-        tries = [(seconds(lambda: of.pack(41, by_names)), seconds(lambda: of.pack(41, in_list))) for _ in range(1000)]
-        self.assertLess(min(named for named, _ in tries) / min(listed for _, listed in tries), 1.5)
+        self.check(Datasets({40: inner, 41: outer}), [*[1] * 23, [1] * 4], by_names)
+
+    def test_arrays(self) -> None:
+        """So it is for arrays of REALs, whose list is one of bits or of floats, and of datasets with one element."""
+        of = Datasets({40: [Element("UINT8", 1, "it")],
+                       41: [Element("UINT32", 500, "reals", "REAL32"), Element("UINT8", 1), Element(40, 0, "more")]})
+        by_names = {"reals": [1.0] * 500, "more": [{"it": 1}] * 20}
+        for real in (0x3F800000, 1.0):
+            self.check(of, [[real] * 500, 20, [[1]] * 20], by_names)

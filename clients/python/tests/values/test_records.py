@@ -99,6 +99,9 @@ class Records(unittest.TestCase):
             DOORS.unpack(40, DATA, into=changed(whole, {}))
         with self.assertRaisesRegex(DoesNotFit, "^doors, element 3, item 1: Doors is of dataset 40$"):
             DOORS.pack(40, [0, [], 0, [Lamp(), VALUE], 0, ""])
+        unknown = type("Else", (Lamp,), {"trdp_dataset": 99})
+        with self.assertRaisesRegex(DoesNotFit, "^dataset 99: it isn't known here, so that Else can't be filled$"):
+            DOORS.unpack(0, b"", into=unknown)
         no_class: Any = int
         with self.assertRaisesRegex(TypeError, "^into is <class 'int'>, and no dataclass of a dataset$"):
             DOORS.unpack(40, DATA, into=no_class)
