@@ -129,7 +129,7 @@ class Pages(unittest.TestCase):
 
     def by_name(self) -> None:
         """Values by names: in Python, in C, and as trdp_dump shows them."""
-        self.write("car.toml", "[node]\n")
+        self.write("car.toml", here('[node]\naddress = "127.0.0.4"\n'))
         self.write("car.py", "from car_values import car\n")
         self.write("car.c", '#include "car.h"\n')
         daemon, module, named = self.steps("$ ./run daemon car.toml &")
