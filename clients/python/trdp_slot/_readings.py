@@ -10,7 +10,7 @@ from __future__ import annotations
 import decimal
 import functools
 import struct
-from collections.abc import Sequence
+from collections.abc import Callable, Sequence
 from typing import Any
 
 from ._items import MEANINGS, REAL_CODES
@@ -55,15 +55,17 @@ def dataset_reading(elements: Sequence[Element], entries: Sequence[Any]) -> str:
 def reading_of(element: Element, entry: Any) -> str:
     """The reading of an element of a basic type, of which a value by names has that entry: `25.3 km/h (253)`. Where the
     raw numbers are others than what is read, they are in brackets."""
+    read = entry_text(element, entry, number_reading) + (f" {element.unit}" if element.unit else "")
+    items = entry if isinstance(entry, list) else [entry]
+    is_other = is_scaled(element) or any(isinstance(it, bool) for it in items)
+    return f"{read} ({entry_text(element, entry, raw_text)})" if is_other else read
+
+
+def entry_text(element: Element, entry: Any, text: Callable[[Element, Any], str]) -> str:
+    """An entry with that text of each number."""
     if isinstance(entry, list):
-        read = joined([number_reading(element, it) for it in entry])
-        raw = joined([raw_text(element, it) for it in entry])
-    elif isinstance(entry, str):
-        read = raw = repr(entry)
-    else:
-        read, raw = number_reading(element, entry), raw_text(element, entry)
-    unit = f" {element.unit}" if element.unit else ""
-    return f"{read}{unit}" if read == raw and not is_scaled(element) else f"{read}{unit} ({raw})"
+        return joined([text(element, it) for it in entry])
+    return repr(entry) if isinstance(entry, str) else text(element, entry)
 
 
 def joined(texts: str | list[str]) -> str:
