@@ -92,6 +92,8 @@ class Names(unittest.TestCase):
         """The same of datasets, slots and telegrams."""
         for text, said in [
             ("[[dataset]]\nname = 'a'", "dataset[0]: id is missing"),
+            ("[[dataset]]\nid = 40", "dataset 40 has 0 elements, and not 1 to 256"),
+            (f"[[dataset]]\nid = 40\nelement = [{'{}, ' * 257}]", "dataset 40 has 257 elements, and not 1 to 256"),
             ("[[dataset]]\nid = 40\nname = []\nelement = [{ type = 8 }]",
              "dataset 40: name is [], and no text without control characters"),
             ("[[slot]]\n[[slot]]\nname = ''", "slot 1: name is empty"),
