@@ -2,6 +2,7 @@
 from __future__ import annotations
 
 import collections
+import contextlib
 import datetime
 import fractions
 import math
@@ -10,7 +11,7 @@ import time
 import types
 import unittest
 import uuid
-from collections.abc import Callable
+from collections.abc import Callable, Iterator
 from typing import Any
 
 from test_values import datasets
@@ -81,6 +82,20 @@ MISFITS: list[tuple[str, Any, str]] = [
     ("type = 'CHAR8'", "A", "'A' is no CHAR8, 0 to 255"),
     ("type = 'UINT8', size = 2", "ab", "'ab' is no list"),
 ]
+
+
+# What a program may have where it means something else.
+ODD: list[Any] = [None, "x", "\ud800", b"x", 1.5, math.nan, -1, 10**400, 1j, True, [], [[]], {}, {"on": 1}, (1, 2), {1},
+                  range(2), object(), int]
+
+
+def spoiled(value: Any, odd: Any) -> Iterator[Any]:
+    """Copies of a value, in each of which this is at another place, at any depth."""
+    yield odd
+    if isinstance(value, dict):
+        yield from ({**value, key: it} for key in value for it in spoiled(value[key], odd))
+    elif isinstance(value, list):
+        yield from ([*value[:at], it, *value[at + 1:]] for at in range(len(value)) for it in spoiled(value[at], odd))
 
 
 class ByNames(unittest.TestCase):
@@ -167,6 +182,15 @@ class Faults(unittest.TestCase):
                 of.pack(40, {"it": value})
             at = "a.it[1]" if isinstance(value, list) else "a.it"
             self.assertEqual(str(caught.exception), f"{at}: {said}")
+
+    def test_whatever_a_value_has(self) -> None:
+        """It is packed or refused, and nothing of it is changed."""
+        for odd in ODD:
+            for value in [*spoiled(VALUE, odd), *spoiled(LISTS, odd)]:
+                shown = repr(value)
+                with contextlib.suppress(DoesNotFit):
+                    self.assertIsInstance(DOORS.pack(40, value), bytes)
+                self.assertEqual(repr(value), shown)
 
     def test_names_that_are_wrong(self) -> None:
         """A name that is missing and one that no element has are told, as is a count that doesn't agree."""
