@@ -95,6 +95,7 @@ BARE = NO_OPERATOR + NO_CALLS.format(0)
 REACHED = ("warning: the network reaches the control ports at {}: a stranger's datagram, an empty one too, takes a "
            "slot's indications, and his lines are its calls, of which `reset` ends all its objects; "
            "control_address = \"127.0.0.1\" keeps him out\n")
+NAME_WISH = "a text is wanted, not empty and without control characters"
 GROUP = "what is sent to the group alone comes in, and what goes out bears another address\n"
 PORTS = ("slot = [{ control_port = 18000 }, { publishers = 256, repliers = 7 }]\n"
          "node = { operator_port = 65535, md_port = 2, pd_port = 1, "
@@ -191,12 +192,51 @@ WORDS = [
      + REACHED.format("255.255.255.255")
      + "".join(f"warning: pd_port and {it} both name port 65535 at 255.255.255.255\n" for it in OTHERS)
      + "warning: no telegram of process data carries dataset 4294967295: it has 65388 bytes or more, and 1432 fit\n"),
-    ("[nodes]\n" + NODE + "operater_port = 1\n" + ONE + "publisher = 1\n[[dataset]]\nid = 1001\nname = 'x'\n"
-     "element = [{ type = 8, count = 2 }]\n",
+    ("[nodes]\n" + NODE + "operater_port = 1\n" + ONE + "publisher = 1\n[[dataset]]\nid = 1001\nunit = 'V'\n"
+     "element = [{ type = 8, count = 2 }]\n[[telegram]]\ncom_id = 100\ndataset = 0\ncycle = 1\n",
      MEANT + "dataset 1001: elements 1, bytes 1\nwarning: the file's root: the key nodes means nothing\n"
      "warning: node: the key operater_port means nothing\nwarning: slot 0: the key publisher means nothing\n"
-     "warning: dataset 1001: the key name means nothing\n"
-     "warning: dataset 1001, element 0: the key count means nothing\n" + BARE),
+     "warning: dataset 1001: the key unit means nothing\n"
+     "warning: dataset 1001, element 0: the key count means nothing\n"
+     "warning: telegram 0: the key cycle means nothing\n" + BARE),
+    # What only the clients read, and the node ignores.
+    (NODE + ONE + "name = 'doors'\n[[dataset]]\nid = 1001\nname = 'status'\nelement = [\n"
+     "  { type = 'UINT32', as = 'REAL32', name = 'speed', unit = 'km/h', scale = -0.5, offset = 3 },\n"
+     "  { type = 11, size = 2, as = 'REAL64', name = 'Speed', unit = '', scale = 2, offset = -1e3 },\n"
+     "  { type = 'BITSET8', as = 'ANTIVALENT8', name = '\u00fc' }, { type = 1, as = 'ANTIVALENT8' },\n"
+     "  { type = 'UINT32' }, { type = 10, size = 0, as = 'REAL32' },\n]\n[[dataset]]\nid = 1002\n"
+     "element = [{ type = 8, name = 'speed' }]\n[[telegram]]\ncom_id = 100\ndataset = 1001\nname = 'doors'\n"
+     "cycle_us = 0\ntime_us = 4294967295\nreply_us = 1\nconfirm_us = 2\n",
+     MEANT + "dataset 1001: elements 6, bytes 26 and more\ndataset 1002: elements 1, bytes 1\n" + BARE),
+    (NODE + ONE + "name = ''\n[[dataset]]\nid = 1001\nname = 5\nelement = [\n"
+     "  { type = 8, name = 'a', unit = 1, scale = 0, offset = 'x' },\n"
+     "  { type = 8, name = 'a', scale = -0.0, offset = inf },\n"
+     "  { type = 8, name = \"b\\u0007\", unit = \"\\u007F\", scale = nan, offset = true },\n"
+     "  { type = 'INT32', as = 'REAL32' }, { type = 10, size = 2, as = 'REAL64' },\n"
+     "  { type = 'BOOL8', as = 'ANTIVALENT8' }, { type = 11, as = 'UINT64' }, { type = 11, as = 1 },\n"
+     "  { type = 'UINT32', as = 'REAL32' }, { type = 8, size = 0 },\n]\n"
+     "[[telegram]]\ncom_id = 100\ndataset = 1001\nname = ''\n"
+     "cycle_us = -1\ntime_us = 4294967296\nreply_us = '5'\nconfirm_us = 1.0\n",
+     MEANT + "dataset 1001: elements 10, bytes 36 and more\n"
+     f"warning: line 5, slot 0: name = \"\": {NAME_WISH}\nwarning: line 8, dataset 1001: name = 5: {NAME_WISH}\n"
+     + "".join(f"warning: line 9, dataset 1001, element {it}\n" for it in (
+         "0: unit = 1: a text without control characters is wanted",
+         "0: scale = 0: a finite number other than 0 is wanted", "0: offset = \"x\": a finite number is wanted",
+         "1: scale = -0.0: a finite number other than 0 is wanted", "1: offset = inf: a finite number is wanted",
+         "1: name = \"a\": an earlier element has the same", f"2: name = \"b\\u0007\": {NAME_WISH}",
+         "2: unit = \"\\u007F\": a text without control characters is wanted",
+         "2: scale = nan: a finite number other than 0 is wanted", "2: offset = true: a finite number is wanted",
+         "3: as = \"REAL32\": write type = \"UINT32\", as = \"REAL32\"",
+         "4: as = \"REAL64\": write type = \"UINT64\", as = \"REAL64\"",
+         "5: as = \"ANTIVALENT8\": write type = \"BITSET8\", as = \"ANTIVALENT8\"",
+         "6: as = \"UINT64\": REAL32, REAL64 or ANTIVALENT8 is wanted",
+         "7: as = 1: REAL32, REAL64 or ANTIVALENT8 is wanted",
+         "8: as = \"REAL32\": the count of an array stays a whole number"))
+     + f"warning: line 20, telegram 0: name = \"\": {NAME_WISH}\n"
+     "warning: line 21, telegram 0: cycle_us = -1: a number of 0 to 4294967295\n"
+     "warning: line 22, telegram 0: time_us = 4294967296: a number of 0 to 4294967295\n"
+     "warning: line 23, telegram 0: reply_us = \"5\": a number of 0 to 4294967295\n"
+     "warning: line 24, telegram 0: confirm_us = 1.0: a number of 0 to 4294967295\n" + BARE),
 ]
 
 

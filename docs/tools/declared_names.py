@@ -12,10 +12,10 @@ from collections.abc import Iterator
 TOP = pathlib.Path(__file__).resolve().parents[2]
 # The program's own tables: what they have between quotes are words that it reads or prints.
 WORD_TABLES = (
-    "trdp_dataset/src/key.rt", "trdp_dataset/src/element.rt", "trdp_text/src/form.rt", "trdp_text/src/words.rt",
-    "trdp_text/src/names.rt", "trdp_text/src/print.rt", "trdp_text/src/print_message.rt", "trdp_text/src/read.rt",
-    "trdp_text/src/read_message.rt", "trdp_text/specs/RecordText.antt", "trdp_text/specs/ConfigNames.antt",
-    "trdpd/src/command.rt", "trdpd/src/main.rt",
+    "trdp_dataset/src/key.rt", "trdp_dataset/src/client_key.rt", "trdp_dataset/src/element.rt", "trdp_text/src/form.rt",
+    "trdp_text/src/words.rt", "trdp_text/src/names.rt", "trdp_text/src/print.rt", "trdp_text/src/print_message.rt",
+    "trdp_text/src/read.rt", "trdp_text/src/read_message.rt", "trdp_text/specs/RecordText.antt",
+    "trdp_text/specs/ConfigNames.antt", "trdpd/src/command.rt", "trdpd/src/main.rt",
 )
 VISIBLE = r"(?:pub(?:\([\w ]+\))? )?"
 CLAUSES = re.compile(r"\b(?:ensures|requires)\*? (\w+) \{")

@@ -12,20 +12,23 @@
 //! ```
 //!
 //! For the file's author, [`fault_place`] lists all faults with their lines, [`unknown_keys`] the
-//! keys that mean nothing, and [`telegram_doubts`] the telegrams that can't be meant.
+//! keys that mean nothing, [`name_doubts`] the names, units and readings that can't be meant, and
+//! [`telegram_doubts`] the telegrams that can't be.
 //! `trdp_marshal` encodes values of a [`Registry`]; the program starts a node of a [`NodeConfig`].
 //!
 //! Proved: what a file means, and which fault it has, are functions of the table that its text is;
 //! reading the table is up to `toml`. Every registry is sound ([`Registry::sound`]).
 //!
-//! Covered by tests alone: the sentence of a fault, and the words of `fault_place`, `unknown_keys`
-//! and `telegram_doubts`, which have no clauses.
+//! Covered by tests alone: the sentence of a fault, and the words of `fault_place`, `unknown_keys`,
+//! `name_doubts` and `telegram_doubts`, which have no clauses.
 #![tactic(auto)]
 
 mod check;
+mod client_key;
 mod config;
 mod datasets;
 mod depth;
+mod doubt;
 mod element;
 mod fault;
 mod find;
@@ -35,11 +38,13 @@ mod key;
 mod lines;
 mod load;
 mod misfit;
+mod name;
 mod parse;
 mod place;
 mod position;
 mod position_fault;
 mod read;
+mod reading;
 mod registry;
 mod sentence;
 mod size;
@@ -55,4 +60,4 @@ pub use element::{Element, ElementKind, Form, Width};
 pub use fault::ConfigFault;
 pub use key::Key;
 pub use registry::Registry;
-pub use words::{fault_place, telegram_doubts, unknown_keys};
+pub use words::{fault_place, name_doubts, telegram_doubts, unknown_keys};

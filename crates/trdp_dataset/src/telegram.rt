@@ -1,33 +1,15 @@
-//! What the clients read of a file, and the node ignores: the dataset of each comId.
+//! What the clients read of telegrams, and the node ignores: the dataset of each comId, and times.
 
-use crate::lines::{Lines, Spot};
+use crate::client_key::ClientKey;
+use crate::doubt::{Doubt, push_doubts, push_unfit};
 use crate::place::{Place, TELEGRAM_KEY, telegrams_in};
 use crate::registry::Registry;
-use crate::sentence::{push_place, push_value};
 use std::alloc::{AllocError, Global};
 use std::collections::BTreeMap;
 use toml::{Table, Value};
 
-/// The key of a telegram's comId.
-const COM_ID_KEY: &str = "com_id";
-
-/// The key of a telegram's dataset; 0 means bytes.
-const DATASET_KEY: &str = "dataset";
-
-/// A key of a telegram that its author may not have meant.
-#[derive(Clone, Copy)]
-struct Doubt<'a> {
-    /// The table.
-    place: Place,
-    /// The key.
-    key: &'static str,
-    /// Its value.
-    value: &'a Value,
-    /// What there is to say of it.
-    words: &'static str,
-}
-
-/// Adds a warning for each telegram whose dataset isn't there or whose comId an earlier one has.
+/// Adds a warning for each telegram whose dataset isn't there or whose comId an earlier one has, and
+/// for each name and time of a telegram that can't be meant.
 ///
 /// # Errors
 /// [`AllocError`] where there is no memory.
@@ -39,23 +21,7 @@ pub(crate) fn push_telegrams(
     registry: &Registry,
 ) -> Result<(), AllocError> {
     let doubts = doubts_of(alloc, top, registry)?;
-    if doubts.is_empty() {
-        return Ok(());
-    }
-    let mut lines = Lines::new(alloc, file)?;
-    for doubt in &doubts {
-        let line = lines.line_of(Spot {
-            place: doubt.place,
-            key: Some(doubt.key),
-            members: 0,
-        })?;
-        text.push_str("warning: ")?;
-        push_place(text, line, doubt.place)?;
-        push_value(alloc, text, doubt.key, doubt.value)?;
-        text.push_str(doubt.words)?;
-        text.push_str("\n")?;
-    }
-    Ok(())
+    push_doubts(alloc, text, file, &doubts)
 }
 
 /// The keys of telegrams that their author may not have meant.
@@ -74,6 +40,7 @@ fn doubts_of<'a>(
         if let Some(table) = member.as_table() {
             push_com_id(&mut doubts, &mut seen, table, index)?;
             push_dataset(&mut doubts, registry, table, index)?;
+            push_unfit(&mut doubts, table, Place::Telegram(index))?;
         }
     }
     Ok(doubts)
@@ -108,7 +75,8 @@ fn push_com_id<'a>(
     telegram: &'a Table,
     index: usize,
 ) -> Result<(), AllocError> {
-    let Some(value) = telegram.get(COM_ID_KEY) else {
+    let key = ClientKey::ComId.text();
+    let Some(value) = telegram.get(key) else {
         return Ok(());
     };
     let Some(com_id) = value.as_integer() else {
@@ -117,7 +85,7 @@ fn push_com_id<'a>(
     if seen.insert(com_id, index)?.is_some() {
         doubts.push(Doubt {
             place: Place::Telegram(index),
-            key: COM_ID_KEY,
+            key,
             value,
             words: "an earlier telegram has the same",
         })?;
@@ -135,11 +103,12 @@ fn push_dataset<'a>(
     telegram: &'a Table,
     index: usize,
 ) -> Result<(), AllocError> {
-    if let Some(value) = telegram.get(DATASET_KEY) {
+    let key = ClientKey::TelegramDataset.text();
+    if let Some(value) = telegram.get(key) {
         if !is_there(registry, value) {
             doubts.push(Doubt {
                 place: Place::Telegram(index),
-                key: DATASET_KEY,
+                key,
                 value,
                 words: "no dataset has this identifier",
             })?;

@@ -1,7 +1,8 @@
 //! Keys of a file that mean nothing.
 
+use crate::client_key::client_keys;
 use crate::key::Key;
-use crate::place::{DatasetName, Place, TELEGRAM_KEY, node_in};
+use crate::place::{DatasetName, Place, TELEGRAM_KEY, node_in, telegrams_in};
 use crate::position::{DATASET_KEYS, ELEMENT_KEYS, NODE_KEYS, SLOT_KEYS, members_at};
 use std::alloc::AllocError;
 use std::fmt::Write;
@@ -20,10 +21,11 @@ pub(crate) fn push_unknown(text: &mut String, top: &Table) -> Result<(), AllocEr
         push_unknown_in(text, node, Place::Node, &NODE_KEYS)?;
     }
     push_unknown_in_slots(text, top)?;
-    push_unknown_in_datasets(text, top)
+    push_unknown_in_datasets(text, top)?;
+    push_unknown_in_telegrams(text, top)
 }
 
-/// Adds a warning for each key of a table that isn't one of these.
+/// Adds a warning for each key of a table that is neither one of these nor one of the clients.
 ///
 /// # Errors
 /// [`AllocError`] where there is no memory.
@@ -41,10 +43,17 @@ fn push_unknown_in(
     Ok(())
 }
 
-/// Whether a name is one of the keys of a table, or at the root the one of the clients.
+/// Whether a name is one of the keys of a table, or one that the clients read there.
 fn is_known(place: Place, keys: &[Key], name: &str) -> bool {
-    let is_clients = matches!(place, Place::Root) && name == TELEGRAM_KEY;
-    is_clients || keys.iter().any(|key| key.text() == name)
+    keys.iter().any(|key| key.text() == name) || is_clients(place, name)
+}
+
+/// Whether a name is a key of a table that the clients read: at the root that of the telegrams.
+fn is_clients(place: Place, name: &str) -> bool {
+    match place {
+        Place::Root => name == TELEGRAM_KEY,
+        _ => client_keys(place).iter().any(|key| key.text() == name),
+    }
 }
 
 /// Adds the warnings of the slots.
@@ -87,6 +96,19 @@ fn push_unknown_in_elements(
     for (index, member) in members_at(dataset, Key::Elements).iter().enumerate() {
         if let Some(table) = member.as_table() {
             push_unknown_in(text, table, Place::Element(name, index), &ELEMENT_KEYS)?;
+        }
+    }
+    Ok(())
+}
+
+/// Adds the warnings of the telegrams.
+///
+/// # Errors
+/// [`AllocError`] where there is no memory.
+fn push_unknown_in_telegrams(text: &mut String, top: &Table) -> Result<(), AllocError> {
+    for (index, member) in telegrams_in(top).iter().enumerate() {
+        if let Some(table) = member.as_table() {
+            push_unknown_in(text, table, Place::Telegram(index), &[])?;
         }
     }
     Ok(())

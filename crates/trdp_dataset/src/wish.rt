@@ -1,7 +1,8 @@
 //! What is expected in place of a value.
 
 use crate::key::{Key, Wanted};
-use crate::value::{is_real, items};
+use crate::reading::Reading;
+use crate::value::{items, natural};
 use std::alloc::AllocError;
 use std::fmt::Write;
 use std::net::Ipv4Addr;
@@ -91,8 +92,8 @@ fn push_tables_wish(text: &mut String, key: Key, value: &Value) -> Result<(), Al
 /// # Errors
 /// [`AllocError`] where there is no memory.
 fn push_kind_wish(text: &mut String, value: &Value) -> Result<(), AllocError> {
-    if is_meant_as_real(value) {
-        text.push_str("real numbers are left out")
+    if let Some(real) = real_meant(value) {
+        text.push_str(real.wish())
     } else if let Some(name) = name_among(&TYPE_NAMES, value) {
         write!(text, "{name} is wanted")
     } else {
@@ -116,9 +117,13 @@ fn push_kinds(text: &mut String) -> Result<(), AllocError> {
     }
 }
 
-/// Whether a value is meant as the type of a real number.
-fn is_meant_as_real(value: &Value) -> bool {
-    is_real(value) || name_among(&REAL_NAMES, value).is_some()
+/// The real number that a value is meant as the type of; None where it is none.
+fn real_meant(value: &Value) -> Option<Reading> {
+    match natural(value) {
+        Some(12) => Some(Reading::Real32),
+        Some(13) => Some(Reading::Real64),
+        _ => Reading::named(name_among(&REAL_NAMES, value)?),
+    }
 }
 
 /// The name that a value is but for small letters, and blanks before and after.

@@ -1,8 +1,9 @@
 //! Reports for a file's author: what is wrong with it, which of its keys mean nothing, and which
-//! of its telegrams can't be meant.
+//! of its names and telegrams can't be meant.
 
 use crate::config::NodeConfig;
 use crate::fault::ConfigFault;
+use crate::name::push_names;
 use crate::telegram::push_telegrams;
 use crate::told::push_faults;
 use crate::unknown::push_unknown;
@@ -48,8 +49,25 @@ pub fn unknown_keys(alloc: Global, config: &[u8]) -> Result<String, AllocError> 
     Ok(text)
 }
 
+/// Which names, units, scales, offsets and readings in a configuration (TOML) can't be meant, in a
+/// line each, which says what is expected; nothing where the file is no TOML. The clients read these
+/// of slots, datasets and elements, and the node ignores them.
+///
+/// # Errors
+/// [`AllocError`] where there is no memory.
+pub fn name_doubts(alloc: Global, config: &[u8]) -> Result<String, AllocError> {
+    let mut text = String::new(alloc);
+    match toml::table_from_slice(alloc, config) {
+        Ok(top) => push_names(alloc, &mut text, config, &top)?,
+        Err(error) if error.is_memory() => return Err(AllocError),
+        Err(_) => {}
+    }
+    Ok(text)
+}
+
 /// Which telegrams of a configuration (TOML) can't be meant, in a line each: those whose dataset
-/// isn't there or whose comId an earlier one has. `taken` is what the file means.
+/// isn't there or whose comId an earlier one has, and those with a name or a time that is none.
+/// `taken` is what the file means.
 ///
 /// # Errors
 /// [`AllocError`] where there is no memory.
