@@ -54,9 +54,10 @@ def make(folder: pathlib.Path, name: str) -> pathlib.Path:
     copy = folder / name
     libraries = record.crates_below(TOP, name).keys() - {name}
     is_one_disk = os.stat(folder).st_dev == os.stat(TOP).st_dev
+    share: Callable[[str, str], object] = os.link if is_one_disk else shutil.copy2
     parts: list[tuple[str, list[str], Callable[[str, str], object]]] = [
         ("crates", ["out", "must-fail"], shutil.copy2), (f"crates/{name}/out", [], shutil.copy2)]
-    parts += [(f"crates/{it}/out", ["incremental"], os.link if is_one_disk else shutil.copy2) for it in libraries]
+    parts += [(f"crates/{it}/out", ["incremental"], share) for it in libraries]
     room = min(DISK - bytes_in(folder), shutil.disk_usage(folder).free - DISK)
     if sum(bytes_in(TOP / part, *but) for part, but, place in parts if place is not os.link) > room:
         raise OSError(f"all copies of the tree take at most {DISK / 1e9:g} GB of the disk, and leave as much free")
