@@ -18,8 +18,8 @@ from testing import TOP, has_groups, wait_until
 
 PAGES = ("CLIENTS", "PYTHON", "C")
 ADDRESSES = {"127.0.0.1": "127.0.8.30", "127.0.0.2": "127.0.8.31", "127.0.0.3": "127.0.8.34", "127.0.0.4": "127.0.8.35",
-             "0x7f000002": "0x7f00081f", "0x7f000003": "0x7f000822", "0x7f000004": "0x7f000823", "127.0.9.": "127.0.8.",
-             "239.192.0.1": "239.192.8.34"}
+             "127.0.0.5": "127.0.8.36", "0x7f000002": "0x7f00081f", "0x7f000004": "0x7f000823",
+             "0x7f000005": "0x7f000824", "127.0.9.": "127.0.8.", "239.192.0.1": "239.192.8.34"}
 # How long a client waits for an answer: as it is written, and how it is here, where a daemon may stand still.
 WAITS = [(r'(Slot(?:\.look)?\("[\w/]+\.toml", 0)', r"\1, answer_us=10_000_000"),
          (r"\.timeout = 200\b", ".timeout = 10000")]
