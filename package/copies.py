@@ -53,8 +53,9 @@ def make(folder: pathlib.Path, name: str) -> pathlib.Path:
     """Makes a copy to prove a crate in, in the folder of all copies. Raises OSError if there is no room for it."""
     copy = folder / name
     libraries = record.crates_below(TOP, name).keys() - {name}
-    is_one_disk = os.stat(folder).st_dev == os.stat(TOP).st_dev
-    share: Callable[[str, str], object] = os.link if is_one_disk else shutil.copy2
+    share: Callable[[str, str], object] = shutil.copy2
+    if os.stat(folder).st_dev == os.stat(TOP).st_dev:
+        share = os.link
     parts: list[tuple[str, list[str], Callable[[str, str], object]]] = [
         ("crates", ["out", "must-fail"], shutil.copy2), (f"crates/{name}/out", [], shutil.copy2)]
     parts += [(f"crates/{it}/out", ["incremental"], share) for it in libraries]
