@@ -19,6 +19,7 @@ from typing import Any
 from unittest import mock
 
 import trdp_dump
+import trdp_ports
 import trdp_send
 import trdp_telegram
 from test_traps import DUMP, GROUP, PLACE, SOURCE, Case, packet_of, run
@@ -116,7 +117,7 @@ class Random(Case):
         kinds = {"None": 0, "fault": 0, "telegram": 0}
         for _ in range(DATAGRAMS):
             packet = self.random_packet(telegrams)
-            datagram = trdp_dump.datagram_of(packet)
+            datagram = trdp_ports.datagram_of(packet)
             if datagram is None:
                 kinds["None"] += 1
                 continue
@@ -144,9 +145,9 @@ class Random(Case):
         print(f"command lines by chance: seed {SEED}", file=sys.stderr)
         stubs: list[contextlib.AbstractContextManager[Any]] = [
             mock.patch.object(time, "sleep", interrupt), mock.patch.object(socket, "socket", Quiet),
-            mock.patch.object(trdp_dump, "Beside", trdp_dump.Ports), mock.patch.object(client, "Datagrams", Mute),
+            mock.patch.object(trdp_ports, "Beside", trdp_ports.Ports), mock.patch.object(client, "Datagrams", Mute),
             mock.patch.object(client, "Connection", Mute), mock.patch.object(sys, "stdin", None),
-            mock.patch.object(trdp_dump.Ports, "take", lambda *_: interrupt()),
+            mock.patch.object(trdp_ports.Ports, "take", lambda *_: interrupt()),
             # argparse looks for a file at each text.
             mock.patch.object(argparse, "_", str),
         ]

@@ -22,7 +22,8 @@ sys.path.insert(0, str(TOP / "package"))
 from version import SOURCE as VERSION_FILE  # noqa: E402
 from version import program_version  # noqa: E402
 
-TOOLS = ["trdp_dump", "trdp_import", "trdp_lua", "trdp_send", "trdp_structs", "trdp_telegram", "trdp_words"]
+TOOLS = ["trdp_dump", "trdp_import", "trdp_lua", "trdp_ports", "trdp_send", "trdp_structs",
+         "trdp_telegram", "trdp_words"]
 MISSING = [it for it in ("pip", "setuptools", "venv", "wheel") if importlib.util.find_spec(it) is None]
 PORT_HOME = "127.0.8.23"
 # The first telegram of comId 100 with the dataset 0a0b.

@@ -15,6 +15,7 @@ from unittest import mock
 
 import trdp_dump
 import trdp_lua
+import trdp_ports
 import trdp_send
 import trdp_telegram
 import trdp_words
@@ -166,7 +167,7 @@ class Readings(unittest.TestCase):
     def line(self, com_id: int, payload: bytes) -> str:
         """The line of trdp_dump.py for a telegram."""
         everything = trdp_dump.Filter(frozenset(), frozenset())
-        datagram = trdp_dump.Datagram(SOURCE, DEST, telegram(com_id, payload))
+        datagram = trdp_ports.Datagram(SOURCE, DEST, telegram(com_id, payload))
         return trdp_dump.dump_line(datagram, False, everything, self.datasets) or ""
 
     def test_values(self) -> None:

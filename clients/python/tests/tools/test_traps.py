@@ -20,6 +20,7 @@ from unittest import mock
 import testing
 import trdp_dump
 import trdp_lua
+import trdp_ports
 import trdp_send
 import trdp_telegram
 import trdp_words
@@ -261,7 +262,7 @@ class Unread(Case):
 
     def test_packets(self) -> None:
         whole = packet_of(b"abc")
-        found = trdp_dump.Datagram((SOURCE, 9), (DUMP, 17224), b"abc")
+        found = trdp_ports.Datagram((SOURCE, 9), (DUMP, 17224), b"abc")
         for packet, wanted in [
             (whole, found), (packet_of(b"abc", words=15), found), (whole + b"more", found),
             (packet_of(b"abc", 10), found._replace(data=b"ab")), (packet_of(b""), found._replace(data=b"")),
@@ -270,18 +271,19 @@ class Unread(Case):
             (packet_of(b"abc", words=4), None), (packet_of(b"abc", version=6), None),
             (packet_of(b"", words=15)[:67], None),
         ]:
-            self.assertEqual(trdp_dump.datagram_of(packet), wanted, packet)
+            self.assertEqual(trdp_ports.datagram_of(packet), wanted, packet)
 
     def test_a_socket_that_has_nothing_after_all(self) -> None:
         with contextlib.ExitStack() as stack:
-            ports = trdp_dump.Ports(trdp_dump.Where(DUMP, (), trdp_words.Interface(), (0, 0)), stack)
+            ports = trdp_ports.Ports(trdp_ports.Where(DUMP, (), trdp_words.Interface(), (0, 0)), stack)
             bound = mock.Mock()
-            bound.recvfrom.side_effect = [BlockingIOError(11, "again"), (b"abc", (SOURCE, 9)),
-                                          OSError(101, "unreachable")]
+            bound.recvmsg.side_effect = [BlockingIOError(11, "again"), (b"abc", [], 0, (SOURCE, 9)),
+                                         OSError(101, "unreachable")]
             stack.enter_context(mock.patch.object(
                 ports.selector, "select", lambda _: [(mock.Mock(data=(bound, (DUMP, 7))), 1)]))
             taken = [it for _ in range(3) for it in ports.take(1)]
-        self.assertEqual(taken, [trdp_dump.Datagram((SOURCE, 9), (DUMP, 7), b"abc")])
+        wanted = trdp_ports.Datagram((SOURCE, 9), (DUMP, 7), b"abc")
+        self.assertEqual([it._replace(time_us=0) for it in taken], [wanted])
         self.assertEqual(ports.unread, 2)
 
     @unittest.skipUnless(os.geteuid() == 0, "root alone sends packets as they shall be")
