@@ -1,6 +1,6 @@
 """Telegrams of the Train Real-time Data Protocol, and files of them for Wireshark.
 
-Used by trdp_dump.py and trdp_send.py. docs/SCRIPT.md has the headers, byte by byte.
+Used by trdp_dump.py, trdp_send.py and trdp_view. docs/SCRIPT.md has the headers, byte by byte.
 """
 from __future__ import annotations
 
@@ -24,6 +24,12 @@ VERSION = 0x0100
 _PD_HEAD = struct.Struct(">IH2s7I")
 _MD_HEAD = struct.Struct(">IH2s4Ii16sI32s32s")
 _CHECK = struct.Struct("<I")
+PD_HEADER, MD_HEADER = _PD_HEAD.size + _CHECK.size, _MD_HEAD.size + _CHECK.size
+"""The bytes of a header of process data, and of message data."""
+# The fields of both headers; headerFcs is behind them.
+_START_NAMES = ("sequenceCounter", "protocolVersion", "msgType", "comId", "etbTopoCnt", "opTrnTopoCnt", "datasetLength")
+_PD_NAMES = (*_START_NAMES, "reserved", "replyComId", "replyIpAddress")
+_MD_NAMES = (*_START_NAMES, "replyStatus", "sessionId", "replyTimeout", "sourceURI", "destinationURI")
 
 
 class NoTelegram(ValueError):
@@ -85,16 +91,17 @@ class Telegram:
                              self.dest_uri)
 
 
-def read_telegram(data: bytes, is_message: bool) -> Telegram:
-    """The telegram of process data, or of message data, that these bytes are. Raises NoTelegram."""
+def read_telegram(data: bytes, is_message: bool, is_checked: bool = True) -> Telegram:
+    """The telegram of process data, or of message data, that these bytes are; one with a wrong headerFcs only if it
+    isn't checked. Raises NoTelegram."""
     head = _MD_HEAD if is_message else _PD_HEAD
-    start = head.size + _CHECK.size
+    start = MD_HEADER if is_message else PD_HEADER
     if len(data) < start:
         raise NoTelegram("Short")
     most = MD_MOST if is_message else PD_MOST
     if len(data) > start + most:
         raise NoTelegram("TooLong")
-    if _CHECK.unpack_from(data, head.size)[0] != zlib.crc32(data[:head.size]):
+    if is_checked and _CHECK.unpack_from(data, head.size)[0] != zlib.crc32(data[:head.size]):
         raise NoTelegram("Fcs")
     counter, version, kind, com_id, etb, op_trn, length, *rest = head.unpack_from(data)
     if version >> 8 != VERSION >> 8:
@@ -115,6 +122,26 @@ def read_telegram(data: bytes, is_message: bool) -> Telegram:
         _, telegram.reply_com_id, address = rest
         telegram.reply_address = str(ipaddress.IPv4Address(address))
     return telegram
+
+
+def header_fields(data: bytes, is_message: bool) -> list[tuple[str, str]]:
+    """The fields of a telegram's header in their order, by the standard's names, each with its text."""
+    head, names = (_MD_HEAD, _MD_NAMES) if is_message else (_PD_HEAD, _PD_NAMES)
+    fields = [(name, _field_text(name, value)) for name, value in zip(names, head.unpack_from(data), strict=True)]
+    check, right = _CHECK.unpack_from(data, head.size)[0], zlib.crc32(data[:head.size])
+    is_right = "right" if check == right else f"wrong, 0x{right:08x} is right"
+    return [*fields, ("headerFcs", f"0x{check:08x} ({is_right})")]
+
+
+def _field_text(name: str, value: int | bytes) -> str:
+    """The text of a header's field."""
+    if isinstance(value, int):
+        if name == "replyIpAddress":
+            return str(ipaddress.IPv4Address(value))
+        return f"0x{value:04x}" if name == "protocolVersion" else str(value)
+    if name == "sessionId":
+        return str(uuid.UUID(bytes=value))
+    return value.split(b"\0")[0].decode("utf-8", "backslashreplace")
 
 
 class PcapngFile:

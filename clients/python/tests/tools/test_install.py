@@ -24,6 +24,7 @@ from version import program_version  # noqa: E402
 
 TOOLS = ["trdp_dump", "trdp_import", "trdp_lua", "trdp_ports", "trdp_send", "trdp_structs",
          "trdp_telegram", "trdp_words"]
+PACKAGES = ["trdp_device", "trdp_slot", "trdp_view"]
 MISSING = [it for it in ("pip", "setuptools", "venv", "wheel") if importlib.util.find_spec(it) is None]
 PORT_HOME = "127.0.8.23"
 # The first telegram of comId 100 with the dataset 0a0b.
@@ -105,12 +106,12 @@ class Install(unittest.TestCase):
     def test_the_wheel_has_the_modules_and_says_that_they_have_types(self) -> None:
         with zipfile.ZipFile(self.wheel) as wheel:
             names = {it for it in wheel.namelist() if ".dist-info/" not in it}
-        client = {f"{folder}/{it.name}" for folder in ("trdp_device", "trdp_slot")
-                  for pattern in ("*.py", "py.typed") for it in (PYTHON / folder).glob(pattern)}
-        self.assertEqual(names, client | {f"{it}/{file}" for it in TOOLS for file in ("__init__.py", "py.typed")})
+        whole = {f"{it}/{file.name}" for it in PACKAGES for file in (PYTHON / it).glob("*.py")}
+        self.assertEqual(names, whole | {f"{it}/py.typed" for it in PACKAGES} | {
+            f"{it}/{file}" for it in TOOLS for file in ("__init__.py", "py.typed")})
 
     def test_the_modules_are_there_by_their_names(self) -> None:
-        run([self.bin("python"), "-W", "error", "-c", f"import {', '.join(['trdp_slot', *TOOLS])}"], self.folder)
+        run([self.bin("python"), "-W", "error", "-c", f"import {', '.join([*PACKAGES, *TOOLS])}"], self.folder)
         where = run([self.bin("python"), "-c", "import trdp_slot; print(trdp_slot.__file__)"], self.folder)
         self.assertTrue(pathlib.Path(where).is_relative_to(self.folder / "installed"), where)
 
@@ -132,12 +133,12 @@ class Install(unittest.TestCase):
             self.assertRegex(ran.stderr, f"^setup.py: {re.escape(str(version))}.*{said}")
 
     def test_help(self) -> None:
-        for name in ("trdp-dump", "trdp-import", "trdp-lua", "trdp-send", "trdp-structs"):
+        for name in ("trdp-dump", "trdp-import", "trdp-lua", "trdp-send", "trdp-structs", "trdp-view"):
             self.assertTrue(run([self.bin(name), "--help"], self.folder).startswith(f"usage: {name} "))
 
     def test_a_tool_says_its_name(self) -> None:
         for name, status in (("trdp-dump", 2), ("trdp-import", 2), ("trdp-lua", 1), ("trdp-send", 2),
-                             ("trdp-structs", 1)):
+                             ("trdp-structs", 1), ("trdp-view", 2)):
             line = [self.bin(name), "nowhere"]
             ran = subprocess.run(line, cwd=self.folder, capture_output=True, text=True, timeout=20)
             self.assertEqual((ran.returncode, ran.stderr[:len(name) + 2]), (status, f"{name}: "))
