@@ -9,11 +9,13 @@ import os
 import pathlib
 import re
 import shutil
+import signal
 import socket
 import subprocess
 import sys
 import tempfile
 import unittest
+import urllib.request
 import zipfile
 
 from testing import PYTHON, TOP
@@ -107,6 +109,7 @@ class Install(unittest.TestCase):
         with zipfile.ZipFile(self.wheel) as wheel:
             names = {it for it in wheel.namelist() if ".dist-info/" not in it}
         whole = {f"{it}/{file.name}" for it in PACKAGES for file in (PYTHON / it).glob("*.py")}
+        whole |= {f"trdp_view/web/{file.name}" for file in (PYTHON / "trdp_view/web").iterdir()}
         self.assertEqual(names, whole | {f"{it}/py.typed" for it in PACKAGES} | {
             f"{it}/{file}" for it in TOOLS for file in ("__init__.py", "py.typed")})
 
@@ -132,13 +135,24 @@ class Install(unittest.TestCase):
             self.assertEqual((ran.returncode, ran.stdout), (1, ""))
             self.assertRegex(ran.stderr, f"^setup.py: {re.escape(str(version))}.*{said}")
 
+    def test_the_page_is_served(self) -> None:
+        """The page of trdp-view is installed with it."""
+        line = [self.bin("trdp-view"), PORT_HOME, "--pd-port", "18224", "--md-port", "18225"]
+        with subprocess.Popen(line, cwd=self.folder, stdout=subprocess.PIPE, text=True) as view:
+            assert view.stdout is not None
+            address = view.stdout.readline().strip()
+            for name in ("", "view.js", "dygraph.min.js"):
+                with urllib.request.urlopen(address + name) as answer:
+                    self.assertEqual(answer.status, 200)
+            view.send_signal(signal.SIGINT)
+
     def test_help(self) -> None:
         for name in ("trdp-dump", "trdp-import", "trdp-lua", "trdp-send", "trdp-structs", "trdp-view"):
             self.assertTrue(run([self.bin(name), "--help"], self.folder).startswith(f"usage: {name} "))
 
     def test_a_tool_says_its_name(self) -> None:
         for name, status in (("trdp-dump", 2), ("trdp-import", 2), ("trdp-lua", 1), ("trdp-send", 2),
-                             ("trdp-structs", 1), ("trdp-view", 2)):
+                             ("trdp-structs", 1), ("trdp-view", 1)):
             line = [self.bin(name), "nowhere"]
             ran = subprocess.run(line, cwd=self.folder, capture_output=True, text=True, timeout=20)
             self.assertEqual((ran.returncode, ran.stderr[:len(name) + 2]), (status, f"{name}: "))

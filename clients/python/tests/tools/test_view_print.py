@@ -184,6 +184,18 @@ class Print(unittest.TestCase):
             ("Mc", 300, DOORS, 1, None, []), ("Mr", 300, DOORS, 2, value, []), ("Mr", 300, DOORS_2, 1, value, []),
             ("Mq", 301, DESK, 1, "", ["unknown"]), ("Mn", 302, DOORS_2, 1, "", ["unknown"])])
 
+    def test_what_is_no_fault(self) -> None:
+        """A follower that leads while the leader is silent is no second source, and a pull reply leaves no gap."""
+        taken_over = [
+            *[sent(at, DOORS, GROUP, Telegram("Pd", 2101, payload=CLOSED)) for at in (0, 100_000, 900_000)],
+            *[sent(at, DOORS_2, GROUP, Telegram("Pd", 2101, payload=CLOSED)) for at in (500_000, 600_000)]]
+        pulled = [sent(at, DOORS, DESK if kind == "Pp" else GROUP, Telegram(kind, 2104, counter))
+                  for at, (kind, counter) in enumerate([("Pd", 0), ("Pd", 1), ("Pp", 2), ("Pd", 3), ("Pd", 5)])]
+        found = self.printed(pcap(RAW_IP, sorted([*taken_over, *pulled])), "--toml", str(self.toml))
+        self.assertEqual([(it["com_id"], it["type"], it["source"], it["gaps"], it["marks"]) for it in found["rows"]], [
+            (2101, "Pd", DOORS, 0, []), (2101, "Pd", DOORS_2, 0, []),
+            (2104, "Pd", DOORS, 1, []), (2104, "Pp", DOORS, 0, [])])
+
     def test_captures(self) -> None:
         """The same telegrams in each form of a capture."""
         telegrams = [Telegram("Pd", 2101, counter, payload=CLOSED) for counter in range(3)]
@@ -230,7 +242,10 @@ class Print(unittest.TestCase):
         for words, status, said in [
             (["nowhere.pcap", "--print"], 1, "nowhere.pcap: No such file or directory"),
             (["-", "--print", "--toml", "nowhere.toml"], 1, "nowhere.toml: No such file or directory"),
-            (["-"], 2, "the following arguments are required: --print"),
+            (["127.0.0.1", "--print"], 2, "--print wants a capture, and 127.0.0.1 is an address"),
+            (["-", "--beside"], 2, "--beside wants an address, and '-' is a capture"),
+            (["-", "--print", "--keep", "5"], 2, "--keep is of the page, and --print shows none"),
+            (["127.0.0.1", "--interface", "lo"], 2, "--interface wants --group"),
         ]:
             ran, told, errors = self.run_view(*words)
             self.assertEqual((ran, told), (status, ""))
