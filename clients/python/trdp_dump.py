@@ -4,6 +4,7 @@
     trdp_dump.py 127.0.0.2
     trdp_dump.py 127.0.0.2 --toml node.toml --com-id 2101 --type Pd --pcapng doors.pcapng
     trdp_dump.py 127.0.0.2 --beside
+    trdp_dump.py 127.0.0.2 --table --toml node.toml
     trdp_dump.py 127.0.0.2 --group 239.192.0.1 --group 239.192.0.2 --interface lo
 
 A line is
@@ -18,6 +19,9 @@ value. If the file has names and units, they are shown, with the raw number in b
 A pull request has `replyComId` and `replyAddress` too, a message `session`, `status`, `time` in microseconds and
 `uris`, source and destination. A datagram that is no telegram is `fault=Fcs from=.. length=..`, by the names of its
 first fault: Short, TooLong, Fcs, Version, Kind, Length.
+
+With `--table` the terminal shows a row for each source, destination, comId and type, as the page of trdp-view does,
+with what is wrong on top.
 
 The file is a node's configuration, or any other one, with its `[[dataset]]` tables, and beside them one
 
@@ -54,6 +58,8 @@ from trdp_slot import Datasets, DoesNotFit
 from trdp_telegram import MD_KINDS, PD_KINDS, NoTelegram, PcapngFile, Telegram, read_telegram
 
 NAME = trdp_words.name_of("trdp_dump.py")
+# The words that only lines have.
+OF_LINES = ("pcapng", "time", "count")
 
 
 def hex_word(data: bytes) -> str:
@@ -140,6 +146,8 @@ def parser() -> trdp_words.Words:
                        help="only telegrams of this comId; may be repeated")
     words.add_argument("--type", choices=[*PD_KINDS, *MD_KINDS], action="append", default=[],
                        help="only telegrams of this type; may be repeated")
+    words.add_argument("--table", action="store_true",
+                       help="show a row for each source, destination, comId and type in this terminal; q ends it")
     words.add_argument("--pcapng", help="write what is printed to this file, too, for Wireshark")
     words.add_argument("--time", action="store_true", help="the seconds since 1970 before each line")
     words.add_argument("--count", type=trdp_words.number(1, trdp_words.U32_MOST), help="end after so many lines")
@@ -152,15 +160,30 @@ def parse(words: list[str] | None) -> argparse.Namespace:
     """The words of the command line: these, or those of the program."""
     asked = parser().parse_args(words)
     trdp_ports.check_words(parser(), asked)
+    for word in OF_LINES:
+        if asked.table and getattr(asked, word):
+            parser().error(f"--{word} is of lines, and --table shows none")
     return asked
+
+
+def end_of(asked: argparse.Namespace) -> float | None:
+    """The moment of `time.monotonic` at which it ends, if there is one."""
+    return None if asked.for_us is None else time.monotonic() + asked.for_us / 1_000_000
+
+
+def show_table(asked: argparse.Namespace, taker: Taker, datasets: Datasets) -> None:
+    """Shows the rows of what comes. Raises ValueError if there is no terminal."""
+    # A Python without curses prints lines.
+    from trdp_view import known, network, table
+    file = known.File(datasets if asked.toml else None)
+    table.show(taker, network.Network(file, asked.md_port), table.Wanted(asked.com_id, asked.type), end_of(asked))
 
 
 def print_all(asked: argparse.Namespace, taker: Taker, datasets: Datasets, file: PcapngFile | None) -> None:
     """Prints what comes until it is enough, and writes it to the file."""
     wanted = Filter(frozenset(asked.com_id), frozenset(asked.type))
-    end = None if asked.for_us is None else time.monotonic() + asked.for_us / 1_000_000
     count = 0
-    for datagram in taker.datagrams(end):
+    for datagram in taker.datagrams(end_of(asked)):
         line = dump_line(datagram, datagram.dest[1] == asked.md_port, wanted, datasets)
         if line is None:
             continue
@@ -178,6 +201,9 @@ def dump(asked: argparse.Namespace, stack: contextlib.ExitStack) -> None:
     trdp_words.escape_output()
     datasets = trdp_words.datasets_of(asked.toml) if asked.toml else Datasets({})
     taker = trdp_ports.taker_of(asked.address, asked, stack)
+    if asked.table:
+        show_table(asked, taker, datasets)
+        return
     file = PcapngFile(stack.enter_context(open(asked.pcapng, "wb"))) if asked.pcapng else None
     homes = " and ".join(taker.where.homes)
     print(f"{NAME}: at {homes}, ports {asked.pd_port} and {asked.md_port}", file=sys.stderr, flush=True)
