@@ -4,14 +4,16 @@
 --     tshark -X lua_script:wireshark/trdp.lua -r capture.pcapng
 --
 -- Other ports are named by  -d udp.port==17300,trdp  (in Wireshark: Analyze, Decode As). Wireshark reads the file at its start
--- if it is in the folder of personal Lua plugins (Help, About Wireshark, Folders). It needs trdp_values.lua in the same folder.
+-- if it is in the folder of personal Lua plugins (Help, About Wireshark, Folders). It needs
+-- trdp_sessions.lua and trdp_values.lua in the same folder.
 --
 -- A payload is shown as data. Where a second script says which dataset the payload of a comId is, it is shown as its value:
 --
 --     clients/python/trdp_lua.py node.toml > datasets.lua
 --     tshark -X lua_script:wireshark/trdp.lua -X lua_script:datasets.lua -r capture.pcapng
 
--- How a payload is read as a value of its dataset.
+-- Which telegrams answer which, and how a payload is read as a value of its dataset.
+local sessions = require("trdp_sessions")
 local values = require("trdp_values")
 
 local trdp = Proto("trdp", "Train Real-time Data Protocol")
@@ -61,6 +63,9 @@ local fields = {
     value = ProtoField.string("trdp.value", "value"),
     element = values.fields.element,
     number = values.fields.number,
+    answers = sessions.fields.answers,
+    answeredBy = sessions.fields.answeredBy,
+    answerTime = sessions.fields.answerTime,
 }
 trdp.fields = fields
 
@@ -245,6 +250,11 @@ local function show_rest(buffer, header, pinfo, tree, root)
     Dissector.get("data"):call(buffer, pinfo, root)
 end
 
+-- Another capture has other sessions.
+function trdp.init()
+    sessions.forget()
+end
+
 function trdp.dissector(buffer, pinfo, root)
     pinfo.cols.protocol = "TRDP"
     local tree = root:add(trdp, buffer())
@@ -260,6 +270,9 @@ function trdp.dissector(buffer, pinfo, root)
     offset = add_fields(is_md and MD_REST or PD_REST, buffer, offset, tree)
     local repeated = is_md and add_repeat(buffer, tree) or ""
     local is_right = add_check(buffer, offset, tree)
+    if is_md and is_right then
+        sessions.add(buffer, pinfo, tree)
+    end
     add_faults(buffer, header, port, tree)
     tree:set_len(header)
     local dataset = add_dataset(buffer, header, pinfo, tree, root)
