@@ -68,6 +68,12 @@ def frame_check(figures: Figures) -> str:
                      for size in (36, 1472))
 
 
+def view(figures: Figures) -> str:
+    lost = figures["sent"] - figures["counted"] - figures["dropped"]
+    return (f"{short(100 * figures['processor'])} % of a processor, {figures['half_mb']:.0f} MB at half of the time and "
+            f"{figures['end_mb']:.0f} MB at the end, {lost} lost")
+
+
 def control_lines(figures: Figures) -> str:
     rows = [it for it in figures["lines"] if it["unanswered"] == 64]
     return ", ".join(f"{it['port']} {short(it['us'])} µs" for it in rows)
@@ -100,6 +106,8 @@ SCRIPTS = (
            "the kit, rustc, zlib", "frame_check", frame_check),
     Script("How many instructions does a line of a script take?", "bench/instructions.py", "3", "valgrind",
            "instructions", instructions),
+    Script("What does `trdp-view` cost at 5,000 telegrams a second, and does it lose any?", "bench/view.py", "10", "",
+           "view", view),
     Script("Does the program need more than another program?", "bench/compare.py OTHER", "10", "rustc, valgrind"),
     Script("How long does the first proof take?", "bench/proof.py", "30 to 60", "the kit", "proof"),
 )
