@@ -186,12 +186,27 @@ class Pages(unittest.TestCase):
             self.prints(step)
         if has_groups():
             self.groups()
+        self.views()
         self.names()
         table, shown = self.steps("$ clients/python/trdp_lua.py doors.toml")
         self.prints(table)
         self.assertIn("[2101] = 5002", (self.top / "datasets.lua").read_text())
         if shutil.which("tshark") and os.geteuid() == 0:
             self.assertIn("[4, [0, 0, 0, 0], 0]", self.folder.type(shown.text)[-1])
+
+    def views(self) -> None:
+        """trdp-view prints the address of its page, and what is in the capture of the dump."""
+        served, printed = (self.steps(f"$ python3 clients/python/trdp_view {it}")[0]
+                           for it in (here("127.0.0.3"), "doors.pcapng"))
+        process = self.begin(served.text)
+        assert process.stdout is not None
+        address = "http://127.0.0.1:[0-9]+/[A-Za-z0-9_-]{22}/"
+        for line in (process.stdout.readline().strip(), served.shown[0].replace("127.0.8.30", "127.0.0.1")):
+            self.assertRegex(line, f"^{address}$")
+        os.killpg(process.pid, signal.SIGINT)
+        self.assertEqual(process.wait(20), 0)
+        if os.geteuid() == 0:
+            self.prints(printed)
 
     def groups(self) -> None:
         """A dump in a group, and a telegram to that."""
