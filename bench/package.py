@@ -180,7 +180,7 @@ def look_into(folder: pathlib.Path) -> None:
     modules = f"{folder}/{MODULES}"
     look_at(["usr/bin/trdpd", "check", "etc/trdpd/node.toml"], folder, "node 127.0.0.1: process data at port 17224")
     look_at_installed_node(folder)
-    for tool in ("trdp-dump", "trdp-import", "trdp-lua", "trdp-send", "trdp-structs"):
+    for tool in ("trdp-dump", "trdp-import", "trdp-lua", "trdp-send", "trdp-structs", "trdp-view"):
         look_at([sys.executable, f"usr/bin/{tool}", "--help"], folder, f"usage: {tool} ", PYTHONPATH=modules)
         look_at_page(folder, tool)
     look_at([sys.executable, "-c", "import trdp_slot"], folder, "", PYTHONPATH=modules)

@@ -15,9 +15,9 @@ MODULES = "usr/lib/python3/dist-packages"
 PLUGINS = "usr/lib/x86_64-linux-gnu/wireshark/plugins"
 # The tools that are commands, and the module of each.
 TOOLS = {"trdp-dump": "trdp_dump", "trdp-import": "trdp_import", "trdp-lua": "trdp_lua", "trdp-send": "trdp_send",
-         "trdp-structs": "trdp_structs"}
-# The folders that are packages of Python, each with its types.
-FOLDERS = ("trdp_device", "trdp_slot")
+         "trdp-structs": "trdp_structs", "trdp-view": "trdp_view"}
+# The folders that are packages of Python, each with its types, and what is in them beside modules.
+FOLDERS = {"trdp_device": (), "trdp_slot": (), "trdp_view": ("web/*",)}
 # Debian's packages of the libraries, and how their versions begin in an ELF file.
 PACKAGES = {
     "libc.so.6": ("libc6", "GLIBC_"), "libm.so.6": ("libc6", "GLIBC_"), "ld-linux-x86-64.so.2": ("libc6", "GLIBC_"),
@@ -121,7 +121,7 @@ def changelog(number: str, day: str) -> bytes:
 
 def document_files() -> Iterator[File]:
     """The project's documents and examples, as they are there."""
-    pages = [*TOP.glob("*.md"), *(TOP / "docs").glob("[A-Z]*.md"), *(TOP / "docs").glob("*.svg")]
+    pages = [it for pattern in ("*.md", "docs/[A-Z]*.md", "docs/*.svg", "docs/*.png") for it in TOP.glob(pattern)]
     paths = [*pages, *(TOP / "examples").rglob("*")]
     for path in paths:
         name = path.relative_to(TOP).as_posix()
@@ -139,8 +139,9 @@ def client_files(number: str) -> Iterator[File]:
                         ("cmake/TrdpSlot/TrdpSlotConfigVersion.cmake", "TrdpSlotConfigVersion.cmake.in")):
         yield File(f"usr/share/{place}", filled(name, IN_C, VERSION=number, MAJOR=major).encode())
     python = TOP / "clients" / "python"
-    for path in [it for folder in FOLDERS for it in [*(python / folder).glob("*.py"), python / folder / "py.typed"]]:
-        yield File(f"{MODULES}/{path.parent.name}/{path.name}", path.read_bytes())
+    for folder, others in FOLDERS.items():
+        for path in [it for pattern in ("*.py", "py.typed", *others) for it in (python / folder).glob(pattern)]:
+            yield File(f"{MODULES}/{path.relative_to(python)}", path.read_bytes())
     for path in python.glob("trdp_*.py"):
         # Only a folder can say that a module has types, by its file py.typed. What is imported from it is no command.
         module = path.read_text("utf-8").removeprefix("#!/usr/bin/env python3\n")
@@ -148,7 +149,7 @@ def client_files(number: str) -> Iterator[File]:
         yield File(f"{MODULES}/{path.stem}/py.typed", b"")
     for tool, module in TOOLS.items():
         yield File(f"usr/bin/{tool}", filled("tool", MODULE=module).encode(), is_program=True)
-    for name in ("trdp.lua", "trdp_values.lua"):
+    for name in ("trdp.lua", "trdp_sessions.lua", "trdp_values.lua"):
         yield File(f"{PLUGINS}/{name}", text_of(f"wireshark/{name}").encode())
 
 
