@@ -4,9 +4,9 @@
     bench/view.py [SECONDS] [--save]      default: 600 seconds
 
 Another process sends 5,000 telegrams a second, of 200 publishers, to the port that trdp-view reads, while one page is
-open. What is printed: how many telegrams were sent, how many trdp-view counted, how many the system dropped at its
-socket, the share of a processor that it used, and its memory at half of the time and at the end. The status is 1 if a
-telegram is missing that the system delivered. All is at 127.0.0.1.
+open. What is printed: how many telegrams were sent in which time, how many trdp-view counted, how many the system
+dropped at its socket, the share of a processor that it used, and its memory at half of the time and at the end. The
+status is 1 if a telegram is missing that the system delivered. All is at 127.0.0.1.
 """
 from __future__ import annotations
 
@@ -44,8 +44,8 @@ def telegrams(count: int) -> Iterator[bytes]:
         yield Telegram("Pd", 1000 + number % ROWS, number // ROWS, payload=PAYLOAD).write()
 
 
-def send(port: int, count: int) -> None:
-    """Sends that many telegrams to a port, so many a second."""
+def send(port: int, count: int, done: int) -> None:
+    """Sends that many telegrams to a port, so many a second, and then a byte into a pipe."""
     with socket.socket(socket.AF_INET, socket.SOCK_DGRAM) as out:
         out.connect((HOST, port))
         begun = time.monotonic()
@@ -53,6 +53,7 @@ def send(port: int, count: int) -> None:
             if number % BURST == 0:
                 time.sleep(max(0.0, begun + number / A_SECOND - time.monotonic()))
             out.send(data)
+    os.write(done, b"\n")
 
 
 class View:
@@ -88,24 +89,33 @@ class View:
         return time.clock_gettime(~self.process.pid << 3 | CLOCK_OF)
 
 
+def drops_at(port: int) -> int:
+    """How many datagrams the system dropped at a port."""
+    rows = [line.split() for line in pathlib.Path("/proc/net/udp").read_text("ascii").splitlines()]
+    return sum(int(it[-1]) for it in rows if it[1].endswith(f":{port:04X}"))
+
+
 def measure(seconds: int) -> dict[str, Any]:
     """What it comes to."""
     ports = free_ports(2)
     view = View(ports)
     try:
         count = seconds * A_SECOND
+        is_done, done = os.pipe()
         used, begun = view.used(), time.monotonic()
-        with forked(partial(send, ports[0], count)):
+        with forked(partial(send, ports[0], count, done)):
             time.sleep(seconds / 2)
             half = view.memory()
-            time.sleep(seconds / 2 + SETTLE)
-            share = (view.used() - used) / (time.monotonic() - begun - SETTLE)
-        end, shown = view.memory(), view.network()
+            os.read(is_done, 1)
+            took = time.monotonic() - begun
+            share = (view.used() - used) / took
+            time.sleep(SETTLE)
+        end, shown, dropped = view.memory(), view.network(), drops_at(ports[0])
     finally:
         view.process.kill()
         view.process.wait()
-    return {"seconds": seconds, "sent": count, "rows": len(shown["rows"]), "events": view.events,
-            "counted": sum(it["count"] for it in shown["rows"]), "dropped": shown["unread"],
+    return {"seconds": took, "sent": count, "rows": len(shown["rows"]), "events": view.events,
+            "counted": sum(it["count"] for it in shown["rows"]), "dropped": dropped,
             "processor": share, "half_mb": half, "end_mb": end}
 
 
@@ -116,7 +126,7 @@ def main() -> int:
     given = parser.parse_args()
     found = measure(given.seconds)
     lost = found["sent"] - found["counted"] - found["dropped"]
-    print(f"{found['sent']} telegrams of {found['rows']} rows in {found['seconds']} s: {found['counted']} counted, "
+    print(f"{found['sent']} telegrams of {found['rows']} rows in {found['seconds']:.0f} s: {found['counted']} counted, "
           f"{found['dropped']} dropped by the system, {lost} lost")
     print(f"processor {found['processor']:.1%}, memory {found['half_mb']:.0f} MB at half of the time and "
           f"{found['end_mb']:.0f} MB at the end, {found['events']} events")

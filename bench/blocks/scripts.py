@@ -70,8 +70,8 @@ def frame_check(figures: Figures) -> str:
 
 def view(figures: Figures) -> str:
     lost = figures["sent"] - figures["counted"] - figures["dropped"]
-    return (f"{short(100 * figures['processor'])} % of a processor, {figures['half_mb']:.0f} MB at half of the time and "
-            f"{figures['end_mb']:.0f} MB at the end, {lost} lost")
+    return (f"{short(100 * figures['processor'])} % of a processor, {short(figures['half_mb'])} MB at half of the time "
+            f"and {short(figures['end_mb'])} MB at the end, {lost} lost")
 
 
 def control_lines(figures: Figures) -> str:

@@ -20,10 +20,12 @@ from trdp_telegram import MD_PORT, PD_PORT
 IP_HEADER = 20
 UDP_HEADER = 8
 # Options of the system that Python has no names for: whether a socket takes what comes to groups that others joined,
-# that each datagram has the time when it came, and that it has how many before it were dropped at this socket.
+# that each datagram has the time when it came, that it has how many before it were dropped at this socket, and that
+# more bytes may wait there than others may have, which takes root.
 IP_MULTICAST_ALL = 49
 SO_TIMESTAMPNS = 35
 SO_RXQ_OVFL = 40
+SO_RCVBUFFORCE = 33
 # How many bytes may wait at a socket, if the system allows so many: a reader in Python pauses now and then.
 ROOM = 4 << 20
 # How many bytes the two notes of a datagram take: when it came, and what was dropped.
@@ -72,6 +74,8 @@ class Where(NamedTuple):
         port = stack.enter_context(socket.socket(socket.AF_INET, kind, protocol))
         port.setblocking(False)
         port.setsockopt(socket.SOL_SOCKET, socket.SO_RCVBUF, ROOM)
+        with contextlib.suppress(PermissionError):
+            port.setsockopt(socket.SOL_SOCKET, SO_RCVBUFFORCE, ROOM)
         for option in (SO_TIMESTAMPNS, SO_RXQ_OVFL):
             port.setsockopt(socket.SOL_SOCKET, option, 1)
         if self.groups:

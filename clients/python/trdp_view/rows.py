@@ -24,8 +24,8 @@ CYCLES_MISSED = 3
 TIMES_LEAST, SILENCE_LEAST_US = 3, 100_000
 """If the file names no cycle, so many times between telegrams have to be known, and data is never silent sooner."""
 SAME_TIME_US = 1_000_000
-"""Two sources send at the same time if one sends between two telegrams of the other, and the other wasn't silent between
-them: if that isn't known, they are at most so far apart."""
+"""Two sources send at the same time if one sends between two telegrams of the other, and the other wasn't silent
+between them: if that isn't known, they are at most so far apart."""
 PULLED_MOST = 16
 """How many counters of answers to pull requests are kept of each sender."""
 
