@@ -128,7 +128,7 @@ class Browser:
     def saved(self, selector: str, pattern: str) -> bytes:
         """Clicks an element, and waits for the file that this saves. Answers its bytes."""
         self.value(f"document.querySelector({json.dumps(selector)}).click()")
-        wait_until(lambda: any(self.downloads.glob(pattern)))
+        wait_until(lambda: any(it.stat().st_size for it in self.downloads.glob(pattern)))
         return next(self.downloads.glob(pattern)).read_bytes()
 
     def screenshot(self, path: pathlib.Path, height: float | None = None) -> None:
