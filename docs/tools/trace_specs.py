@@ -9,9 +9,13 @@ from collections.abc import Iterator
 
 KINDS = r"(?:(?:abbrev|unfoldable|pub|record|data) )*"
 HEAD = re.compile(KINDS + r"\(?([^\s:(]+)")
+# What a line begins with that declares a definition; other lines at the margin are its equations.
+DECLARES = re.compile(r"(?:abbrev|unfoldable|pub|record|data|mutual|infix[lr]?)\b|[^\s:(]+ :")
 NO_HEAD = ("use ", "pub mod ", "unfolding", "where")
 IMPORT = re.compile(r"use Rattle\.(trdp_\w+)\.(specs\.[\w.]+)\.\{([^}]*)\}")
 WORD = re.compile(r"[A-Za-z_][\w'-]*")
+# A definition, or a form of a value, that is declared below another line.
+INNER = re.compile(r" +(?:pub )?(?:(?:data|record) )?([^\s:(]+) :")
 REMARK = "-- rule:"
 
 
@@ -31,12 +35,16 @@ class Id:
 
 @dataclasses.dataclass
 class Definition:
-    """A definition: the line at which it begins, its rules, what its remark says, and the text that it consists of."""
+    """A definition: the line at which it begins, its rules, what its remark says, the first line of its remarks, its
+    last line, and the text that it consists of. One that is declared with others (`mutual`) has the name of the
+    first."""
 
     id: Id
     line: int
     rules: list[str]
     words: str
+    first: int
+    last: int
     text: str = ""
 
 
@@ -50,26 +58,39 @@ def imports(text: str) -> dict[str, Id]:
     return found
 
 
+def declared(lines: list[str], index: int) -> str:
+    """The name that a line declares: of a fixity, the name that it is of; of `mutual`, the first one below it."""
+    line = lines[index]
+    if line.startswith("infix"):
+        return line.split()[-1]
+    if line == "mutual":
+        return next((it[1] for below in lines[index + 1:] if (it := INNER.match(below))), line)
+    head = HEAD.match(line)
+    return head[1] if head else ""
+
+
 def definitions_in(crate: str, module: str, text: str) -> Iterator[Definition]:
     """The definitions of a file, in their order. A definition's remarks are the lines of `--` directly above it."""
     current: Definition | None = None
     above: list[str] = []
-    for number, line in enumerate(text.splitlines(), 1):
+    lines = text.splitlines()
+    for index, line in enumerate(lines):
         if line.startswith("--"):
             above.append(line)
             continue
-        if re.match(r"[\w(◌]", line) and not line.startswith(NO_HEAD):
-            head = HEAD.match(line)
-            name = head[1] if head else ""
+        if DECLARES.match(line) and not line.startswith(NO_HEAD):
+            name = declared(lines, index)
             if current is None or name != current.id.name:
                 if current:
                     yield current
                 rules = [name for it in above if it.startswith(REMARK) for name in it.split()[2:]]
                 words = " ".join(it[3:] for it in above if not it.startswith(REMARK))
-                current = Definition(Id(crate, module, name), number, rules, words)
+                at = index + 1
+                current = Definition(Id(crate, module, name), at, rules, words, at - len(above), at)
         above = []
         if current:
             current.text += line + "\n"
+            current.last = index + 1 if line.strip() else current.last
     if current:
         yield current
 
