@@ -92,11 +92,14 @@ TREE = {
     "crates/trdp_engine/src/node.rt": NODE,
     "crates/trdp_engine/src/run.rt": "//! Runs.\n\nimpl Node {\n    pub fn run(&self)\n        ensures { result }\n"
                                      "    {\n    }\n}\n",
+    "crates/trdp_outbox/src/lib.rt": "//! Records.\n",
+    "crates/trdp_outbox/src/outbox.rt": "//! Records.\n\nimpl Outbox {\n" + "".join(
+        f"    pub fn {it}()\n        ensures {{ result }}\n    {{\n    }}\n" for it in ("new", "get")) + "}\n",
     "crates/trdp_net/src/lib.rt": "//! Networks.\n",
     "crates/trdp_net/src/laws.rt": OVER + "".join(f"pub fn {it}()\n    ensures {{ IsOver 1 }}\n{{}}\n" for it in LAWS),
     "crates/trdp_program/src/lib.rt": "//! Programs.\n",
     "crates/trdp_program/src/daemon.rt": OVER + "pub fn report_daemon() -> u8\n    ensures { IsOver result }\n{\n}\n",
-    "crates.txt": "trdp_base:\ntrdp_engine: trdp_base\ntrdp_net: trdp_engine\ntrdp_program: trdp_engine\n",
+    "crates.txt": "trdp_base:\ntrdp_outbox:\ntrdp_engine: trdp_base\ntrdp_net: trdp_base\ntrdp_program: trdp_base\n",
     "README.md": "1 lines of definitions for the node,\n1 more for a network of nodes, and 1 more for the daemon.\n",
     "docs/tools/kit_words.py": 'WORDS = {"ℕ": ("ℕ", "numbers"), "◌+◌": ("m + n", "sum"), "List": ("List", "list"), '
                                '"if◌then◌else◌": ("if", "if")}\nBESIDE: dict[str, str] = {}\n',
@@ -135,6 +138,12 @@ abbrev pub first : ℕ → ℕ
 first n = record { unused = n + codes "unused" (late side.Left) }
 -- a remark between the values
 first m = if m then n else do second
+--
+pub fn new()
+    ensures { result }
+--
+pub fn get()
+    ensures { result }
 --
 /// A new one.
 pub fn new(held: &Held) -> Node

@@ -12,9 +12,9 @@ README_PAGES = ("docs/PROMISE.md", "docs/PROMISE_NETWORK.md", "docs/PROMISE_DAEM
 
 NODE = """\
 `docs/tools/promise` writes this page from the sources. It has every definition that the contracts of `Node::new`,
-`Node::step` and `Node::run` rest on: {lines} lines in {modules} modules, and {types} lines of the types that calls and
-events are made of. If you trust the prover, this page is all that you need to read to know exactly what the node
-promises. You need to read no proof, and no code.
+`Node::step` and `Node::run` rest on, and of `Outbox::new` and `Outbox::get`, which returns the records: {lines} lines
+in {modules} modules, and {types} lines of the types that events and records are made of. If you trust the prover, this
+page is all that you need to read to know exactly what the node promises. You need to read no proof, and no code.
 
 [MODEL](MODEL.md) explains the same in plain words: start there for an overview. [PROMISE_NETWORK](PROMISE_NETWORK.md)
 and [PROMISE_DAEMON](PROMISE_DAEMON.md) have what is promised of a network of nodes and of the daemon.
@@ -81,6 +81,7 @@ errors. A stream may report neither. [PROOFS](PROOFS.md#what-no-contract-says) l
 
 PAGES = (
     Page("docs/PROMISE.md", "The promise of the node, in full", NODE, (
+        ("trdp_outbox", "outbox", "Outbox::new"), ("trdp_outbox", "outbox", "Outbox::get"),
         ("trdp_engine", "node", "Node::new"), ("trdp_engine", "node", "Node::step"),
         ("trdp_engine", "run", "Node::run"))),
     Page("docs/PROMISE_NETWORK.md", "The promise of a network of nodes, in full", NETWORK, tuple(

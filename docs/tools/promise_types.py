@@ -55,6 +55,16 @@ def remark_above(lines: list[str], index: int) -> list[str]:
     return [line for line in lines[first:index] if line.lstrip().startswith("///")]
 
 
+def without_uses(lines: list[str]) -> list[str]:
+    """These lines without the imports of definitions, and without the empty lines that follow them."""
+    found: list[str] = []
+    is_use = False
+    for line in lines:
+        is_use = "ghost use " in line or is_use and not line
+        found += [] if is_use else [line]
+    return found
+
+
 def last_of(lines: list[str], index: int) -> int:
     """The last line of the item that begins at a line at the margin."""
     for at in range(index, len(lines)):
@@ -96,7 +106,7 @@ def read(crate: str, path: str, text: str) -> Source:
             source.models[model[1]] = Item("model", model[1], index + 1, shown, named, words)
         elif item:
             named = {taken[word] for word in words if word in taken}
-            shown = [*remark_above(lines, index), *(it for it in lines[index:last + 1] if "ghost use " not in it)]
+            shown = [*remark_above(lines, index), *without_uses(lines[index:last + 1])]
             source.items[item[2]] = Item(item[1], item[2], index + 1, shown, named, words - {item[2]})
     for name, model_item in source.models.items():
         if name in source.items:
