@@ -124,13 +124,17 @@ def without_collection() -> Iterator[None]:
 
 
 def run(asked: argparse.Namespace) -> Report:
-    """Writes the folder. Returns the report."""
+    """Prints the report, and writes the folder. Returns the report."""
     report = Report()
     hosts = hosts_of(asked.hosts)
     data = read(asked.file)
     with faults_of(asked.file), without_collection():
         node = import_device(data, wanted_of(asked), hosts, report)
-    write_folder(asked.folder, files_of(node) | (skeletons_of(node) if asked.skeleton else {}))
+    files = files_of(node) | (skeletons_of(node) if asked.skeleton else {})
+    # The report comes first: if it can't be written, there is no folder.
+    sys.stdout.write("".join(f"{it}\n" for it in report.lines()))
+    sys.stdout.flush()
+    write_folder(asked.folder, files)
     return report
 
 
@@ -142,8 +146,6 @@ def main(words: list[str] | None = None) -> int:
         sys.stdout.reconfigure(errors="backslashreplace")
     try:
         report = run(asked)
-        sys.stdout.write("".join(f"{it}\n" for it in report.lines()))
-        sys.stdout.flush()
     except WrongWords as fault:
         print(f"{NAME}: {fault}", file=sys.stderr)
         return 2

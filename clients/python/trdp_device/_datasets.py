@@ -31,10 +31,13 @@ def forms_of(datasets: Mapping[int, DataSet]) -> dict[int, Form]:
     for first in datasets:
         left = [first]
         while left:
-            missing = [it for it in parts_of(datasets[left[-1]]) if it not in forms]
+            number = left[-1]
+            # A dataset that is an element many times is looked at once.
+            parts = () if number in forms else parts_of(datasets[number])
+            missing = {it for it in parts if it not in forms}
             left += missing
             if not missing:
-                number = left.pop()
+                left.pop()
                 if number not in forms:
                     forms[number] = form_of(datasets[number], forms)
     return forms
@@ -121,9 +124,9 @@ class Datasets:
         if number == 0:
             return 0
         self._use(number)
-        within = self._within(number)
         if self._forms[number].why:
             return 0
+        within = self._within(number)
         if is_process and self._forms[number].zero_size > PD_MOST:
             self._report.loss(line, f"dataset {number} is longer than process data carries, so dataset 0 is carried")
             return 0

@@ -16,7 +16,7 @@ def read_hosts(data: bytes) -> Hosts:
     """The addresses of a file. The first line with a name holds, and a line with an IPv6 address is skipped. Raises
     DeviceFault if a line begins with something else."""
     found: dict[str, IPv4Address] = {}
-    for number, line in enumerate(data.decode("utf-8", "replace").split("\n"), 1):
+    for number, line in enumerate(data.decode("utf-8-sig", "replace").split("\n"), 1):
         words = line.partition("#")[0].split()
         if words:
             try:

@@ -1,9 +1,7 @@
 """Names of a device as identifiers."""
 from __future__ import annotations
 
-from collections.abc import Iterator
-
-from trdp_slot._spelling import Spelling, candidates
+from trdp_slot._spelling import Spelling, identifier_of, numbered
 
 from ._report import Report
 
@@ -17,13 +15,20 @@ class Names:
     def __init__(self, report: Report) -> None:
         self._report = report
         self._taken: set[str] = set()
-        self._candidates: dict[str, Iterator[str]] = {}
+        self._numbers: dict[str, int] = {}
+        """Of each identifier in small letters the number that its next name is tried with. It is kept for all names
+        that become this identifier, so that many of them take no longer than others."""
 
     def take(self, name: str) -> str:
         """The identifier of a name."""
-        name = name[:MOST]
-        left = self._candidates.setdefault(name, candidates(name, ()))
-        identifier = next(it for it in left if it.lower() not in self._taken)
+        first = identifier = identifier_of(name[:MOST])
+        number = self._numbers.get(first.lower(), 1)
+        if number > 1:
+            identifier = numbered(first, number)
+        while identifier.lower() in self._taken:
+            number += 1
+            identifier = numbered(first, number)
+        self._numbers[first.lower()] = number + 1
         self._taken.add(identifier.lower())
         return identifier
 

@@ -47,18 +47,22 @@ class Places:
         self._report = report
 
     def range_of(self, source: Source | None) -> Range:
-        """The addresses from which a telegram comes."""
+        """The addresses from which a telegram comes. A second URI of 0.0.0.0 is none."""
         uris = [it for it in source.uris if it.host] if source else []
         found = [self._address(it) for it in uris]
+        if found[1:] == [ANY]:
+            uris, found = uris[:1], found[:1]
         known = sorted(it for it in found if it is not None)
         if len(known) < len(uris):
             words = [str(address or word_of(uri.host)) for uri, address in zip(uris, found)]
             return Range(words[0], words[-1], SENDERS_MOST, False)
-        if not known or known[0] == ANY:
+        if not known:
             return Range(str(ANY), str(ANY), SENDERS_MOST, True)
         low, high = known[0], known[-1]
         if int(high) - int(low) > 1:
             self._report.loss(uris[0].line, f"the range {low} to {high} accepts other addresses, too")
+        if low == ANY:
+            return Range(str(ANY), str(ANY), SENDERS_MOST, True)
         return Range(str(low), str(high), min(SENDERS_MOST, int(high) - int(low) + 1), True)
 
     def taken_at(self, destination: Destination | None) -> Target:

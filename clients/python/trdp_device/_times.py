@@ -26,11 +26,14 @@ class Times:
 
     def timeout(self, telegram: Telegram) -> int:
         """The supervision time of a subscription."""
-        own = self.own_timeout(telegram)
-        time = self._time(self._process.timeout) if own is None else own
-        if time is None:
+        own = telegram.process.timeout if telegram.process else None
+        span = self._process.timeout if own is None else own
+        time = self._time(span)
+        if span is None or time is None:
             self._report.note(telegram.line, f"no time-out is given, and {PD_TIMEOUT} is the standard's")
             return PD_TIMEOUT
+        if time == 0:
+            self._report.note(span.line, f"{span.name} 0: data that stays away is never silent")
         return time
 
     def behaviour(self, telegram: Telegram) -> str:

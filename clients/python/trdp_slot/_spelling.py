@@ -66,14 +66,23 @@ def spellings(names: Iterable[str], reserved: Container[str] = ()) -> list[Spell
 
 def candidates(name: str, reserved: Container[str]) -> Iterator[str]:
     """What a name may become: the first one that no earlier name has is taken."""
+    first = identifier_of(name, reserved)
+    yield first
+    for number in itertools.count(2):
+        yield numbered(first, number)
+
+
+def identifier_of(name: str, reserved: Container[str] = ()) -> str:
+    """What a name becomes if no earlier name has it."""
     first = visible(re.sub("[^A-Za-z0-9_]", "_", name))
     if not first or first[0].isdigit():
         first = "_" + first
-    if first in WORDS or first in reserved:
-        first += "_"
-    yield first
-    for number in itertools.count(2):
-        yield visible(f"{first}_{number}")
+    return first + "_" if first in WORDS or first in reserved else first
+
+
+def numbered(identifier: str, number: int) -> str:
+    """What a name becomes if an earlier name has its identifier."""
+    return visible(f"{identifier}_{number}")
 
 
 def visible(identifier: str) -> str:

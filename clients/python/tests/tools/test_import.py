@@ -109,8 +109,13 @@ class Rules(unittest.TestCase):
             ("no time-out anywhere", device(telegram("sink", "<pd-parameter/>")),
              ["# t", "subscribe 5 0 0.0.0.0 0.0.0.0 0.0.0.0 0 0 100000 zero"],
              ["note: line 1, no time-out is given, and 100000 is the standard's"]),
-            ("any source", device(telegram("sink", PD + '<source uri1="0.0.0.0" uri2="10.0.0.9"/>')),
+            ("any source", device(telegram("sink", PD + '<source uri1="0.0.0.0"/>')),
              ["# t", "subscribe 5 0 0.0.0.0 0.0.0.0 0.0.0.0 0 0 2000 zero"], []),
+            ("any source, and one", device(telegram("sink", PD + '<source uri1="0.0.0.0" uri2="10.0.0.9"/>')),
+             ["# t", "subscribe 5 0 0.0.0.0 0.0.0.0 0.0.0.0 0 0 2000 zero"],
+             ["loss: line 1, the range 0.0.0.0 to 10.0.0.9 accepts other addresses, too"]),
+            ("a second URI that is none", device(telegram("sink", PD + '<source uri1="10.0.0.9" uri2="0.0.0.0"/>')),
+             ["# t", "subscribe 5 0 10.0.0.9 10.0.0.9 0.0.0.0 0 0 2000 zero"], []),
             ("only a second URI", device(telegram("sink", PD + '<source uri2="10.0.0.9"/>')),
              ["# t", "subscribe 5 0 10.0.0.9 10.0.0.9 0.0.0.0 0 0 2000 zero"], []),
             ("process data and messages", device(telegram("source", PD + MD + places("10.0.0.2"))),
@@ -226,6 +231,7 @@ class Rules(unittest.TestCase):
             for lines, own, sender in [
                 ("10.0.0.7 a\n10.0.0.8\tx  b.C # b.c\n10.0.0.9 b.c\n", "10.0.0.7", "10.0.0.8"),
                 ("\n# 1.2.3.4 a\n::1 a\nfe80::1%eth0 a\r\n10.0.0.7 A b.c\r\n", "10.0.0.7", "10.0.0.7"),
+                ("\ufeff10.0.0.7 a b.c\n", "10.0.0.7", "10.0.0.7"),
             ]:
                 hosts.write_text(lines)
                 found = run(device(sink, interface='host-ip="0.0.0.0"'), "--hosts", str(hosts))

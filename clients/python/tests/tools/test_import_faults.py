@@ -3,10 +3,13 @@ from __future__ import annotations
 
 import contextlib
 import io
+import itertools
 import os
 import pathlib
 import random
 import re
+import subprocess
+import sys
 import tempfile
 import time
 import unittest
@@ -219,3 +222,22 @@ class Words(unittest.TestCase):
         begun = time.process_time()
         self.assertEqual(run(data).status, 3)
         self.assertLess(time.process_time() - begun, 20)
+
+    def test_many_of_one_kind(self) -> None:
+        """Neither many names that become one identifier take long, nor datasets that are many elements of others."""
+        names = ("".join(it) for it in itertools.product("-.+ ", "-.+ ", "-.+ ", "-.+ ", "-.+ ", "-.+ "))
+        sinks = "".join(f'<telegram name="{it}" com-id="5" type="sink" data-set-id="40">{PD}</telegram>' for it in names)
+        sets = data_set(40, *20_000 * ['type="41"']) + data_set(41, *20_000 * ['type="UINT8"'])
+        begun = time.process_time()
+        self.assertEqual(run(device(sinks, sets)).status, 3)
+        self.assertLess(time.process_time() - begun, 5)
+
+    def test_a_report_that_cannot_be_written(self) -> None:
+        """If standard output fails, so does the import, and there is no folder."""
+        with tempfile.TemporaryDirectory() as made, open("/dev/full", "w", encoding="ascii") as full:
+            device_file = pathlib.Path(made) / "x.xml"
+            device_file.write_bytes(device("<x/>" + SINK))
+            ran = subprocess.run([sys.executable, trdp_import.__file__, device_file, "-o", f"{made}/new"], stdout=full,
+                                 stderr=subprocess.PIPE, text=True)
+            self.assertEqual((ran.returncode, ran.stderr), (1, "trdp_import.py: No space left on device\n"))
+            self.assertEqual(os.listdir(made), ["x.xml"])
