@@ -55,6 +55,13 @@ local function note(buffer, pinfo)
     end
 end
 
+-- Seconds as a time, rounded to nanoseconds as a whole: 0.9999999999 seconds are one second.
+local function time_of(seconds)
+    local nanoseconds = math.floor(seconds * 1e9 + 0.5)
+    local whole = math.floor(nanoseconds / 1e9)
+    return NSTime.new(whole, nanoseconds - whole * 1e9)
+end
+
 -- Notes a message, and adds what it answers and what answers it.
 local function add(buffer, pinfo, tree)
     note(buffer, pinfo)
@@ -63,10 +70,8 @@ local function add(buffer, pinfo, tree)
         return
     end
     if link.answers then
-        local seconds = math.floor(link.answers.time)
-        local rest = math.floor((link.answers.time - seconds) * 1e9 + 0.5)
         tree:add(fields.answers, link.answers.frame):set_generated()
-        tree:add(fields.answerTime, NSTime.new(seconds, rest)):set_generated()
+        tree:add(fields.answerTime, time_of(link.answers.time)):set_generated()
     end
     for _, frame in ipairs(link.answered_by) do
         tree:add(fields.answeredBy, frame):set_generated()
