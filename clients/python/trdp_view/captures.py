@@ -19,6 +19,10 @@ SECTION_ORDERS = {b"\x1a\x2b\x3c\x4d": ">", b"\x4d\x3c\x2b\x1a": "<"}
 END_OF_OPTIONS, IF_TSRESOL, IF_TSOFFSET = 0, 9, 14
 
 
+TIME_MOST_US = 1 << 53
+"""The latest time of a packet, in the year 2255: up to it each microsecond is a number of JavaScript."""
+
+
 class Packet(NamedTuple):
     """A packet of a capture: when it was captured, in microseconds since 1970, the type of its link, and its bytes."""
 
@@ -45,6 +49,14 @@ def read(stream: BinaryIO, size: int) -> bytes:
 
 def packets(stream: BinaryIO) -> Iterator[Packet]:
     """The packets of a capture, each as soon as it is there. Raises NoCapture, and OSError."""
+    for packet in packets_of_any_time(stream):
+        if not 0 <= packet.time_us <= TIME_MOST_US:
+            raise NoCapture(f"this capture is damaged: a packet {packet.time_us} microseconds after 1970")
+        yield packet
+
+
+def packets_of_any_time(stream: BinaryIO) -> Iterator[Packet]:
+    """The same, also of times that no clock shows."""
     magic = stream.read(4)
     try:
         if magic in PCAP_MAGICS:

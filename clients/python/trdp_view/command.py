@@ -146,7 +146,7 @@ def print_end(asked: argparse.Namespace, stack: contextlib.ExitStack) -> None:
     # An interrupt ends a capture that grows.
     with contextlib.suppress(KeyboardInterrupt):
         read_all(source, network)
-    print(json.dumps(printed(network, source.now_us()), indent=1))
+    print(json.dumps(printed(network, source.now_us()), indent=1), flush=True)
     if source.unread():
         print(f"{NAME}: {source.unread()} datagrams couldn't be read", file=sys.stderr)
 

@@ -26,6 +26,9 @@ def step(latest: int, counter: int) -> Step:
         return Step.NEXT
     if ahead == 0:
         return Step.REPEAT
+    if ahead < STALE:
+        # Also if the counter is 0: it goes on there after the highest one.
+        return Step.GAP
     if counter == 0:
         return Step.RESTART
     if COUNTERS - ahead < STALE:

@@ -47,6 +47,11 @@ def row_text(network: Network, row: Row) -> str | None:
 
 def printed_row(network: Network, row: Row) -> dict[str, Any]:
     """A row as `--print` writes it."""
+    return row_with(network, row, row_value(network, row))
+
+
+def row_with(network: Network, row: Row, value: Any) -> dict[str, Any]:
+    """The same with this value."""
     known = row.known
     return {
         "source": row.key.source, "dest": row.key.dest, "com_id": row.key.com_id, "type": row.key.kind,
@@ -54,7 +59,7 @@ def printed_row(network: Network, row: Row) -> dict[str, Any]:
         "count": row.count, "gaps": row.counting.gaps,
         "cycle_us": known.cycle_us if known is not None else None,
         "median_us": row.cycles.median_us(), "worst_us": row.cycles.worst_us,
-        "silent": row.is_silent, "value": row_value(network, row),
+        "silent": row.is_silent, "value": value,
         "marks": row.marks(network.file.is_there),
     }
 
@@ -69,11 +74,10 @@ def page_row(network: Network, row: Row) -> dict[str, Any]:
 def made_row(network: Network, row: Row) -> dict[str, Any]:
     """The same, made anew. The value of a long message is only told when it is asked for."""
     telegram = row.telegram
-    if telegram is not None and len(telegram.payload) > PD_MOST:
-        shown: dict[str, Any] = {"text": f"{len(telegram.payload)} bytes", "value": None}
-    else:
-        shown = {"text": row_text(network, row)}
-    return printed_row(network, row) | shown | {
+    is_long = telegram is not None and len(telegram.payload) > PD_MOST
+    text = f"{len(telegram.payload)} bytes" if telegram is not None and is_long else row_text(network, row)
+    return row_with(network, row, None if is_long else row_value(network, row)) | {
+        "text": text,
         "number": row.number, "wrong": row.wrong, "lost": row.counting.missing, "repeats": row.counting.repeats,
         "restarts": row.counting.restarts, "jitter_us": row.cycles.jitter_us(), "latest_us": row.heard_us,
         "bytes_per_second": 0 if row.is_silent else row.cycles.bytes_per_second(),

@@ -78,6 +78,8 @@ class Handler(BaseHTTPRequestHandler):
 
     server: Server
     timeout = PATIENCE
+    default_request_version = "HTTP/1.0"
+    """A request that names no version is answered with all headers, too."""
 
     def version_string(self) -> str:
         return "trdp-view"

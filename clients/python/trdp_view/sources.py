@@ -5,7 +5,7 @@ import time
 from collections.abc import Iterator
 from typing import BinaryIO
 
-from trdp_ports import IP_HEADER, Datagram, Taker, datagram_of
+from trdp_ports import IP_HEADER, Datagram, Taker, datagram_of, seconds_left
 
 from .captures import NoCapture, packets
 from .fragments import Fragments, is_fragment
@@ -14,6 +14,9 @@ from .links import LINKS, ip_packet
 UDP = 17
 LAG_US = 1_000_000
 """By how much a capture that grows may be behind: who writes it does so in bursts."""
+BACK_US = 10_000_000
+"""By how much a packet may be before an earlier one, and how long a datagram may wait to be read: if it is more, the
+clock was set."""
 
 
 class Source:
@@ -36,24 +39,38 @@ class Source:
 
 
 class Live(Source):
-    """The ports of an address and of groups."""
+    """The ports of an address and of groups. Its time goes on evenly from when it began, also if the clock is set."""
 
     def __init__(self, taker: Taker) -> None:
         self.taker = taker
+        self._ahead_us = clock_us() - time.monotonic_ns() // 1000
 
     def datagrams(self) -> Iterator[Datagram]:
-        return self.taker.datagrams(None)
+        while True:
+            yield from self.take(None)
+
+    def take(self, end: float | None) -> Iterator[Datagram]:
+        """What there is, if something comes before that moment of `time.monotonic`."""
+        for came in self.taker.take(seconds_left(end)):
+            age_us = clock_us() - came.time_us
+            yield came._replace(time_us=self.now_us() - (age_us if 0 <= age_us < BACK_US else 0))
 
     def now_us(self) -> int:
-        return time.time_ns() // 1000
+        return time.monotonic_ns() // 1000 + self._ahead_us
 
     def unread(self) -> int:
         # The system counts one whose check sum is wrong as dropped, too.
         return max(self.taker.unread, self.taker.dropped)
 
 
+def clock_us() -> int:
+    """What the clock of this machine shows, in microseconds since 1970."""
+    return time.time_ns() // 1000
+
+
 class Capture(Source):
-    """A capture, which may grow while it is read. Its time is that of its latest packet, and goes on while it grows."""
+    """A capture, which may grow while it is read. Its time is that of its latest packet, and goes on while it grows. If
+    the clock was set back meanwhile, what comes after it is later by as much."""
 
     def __init__(self, stream: BinaryIO, ports: tuple[int, int], grows: bool) -> None:
         self.stream = stream
@@ -63,15 +80,20 @@ class Capture(Source):
         self.cut = 0  # how many datagrams weren't captured whole
         self.latest_us = 0
         self._read_at = 0.0
+        self._set_back_us = 0
 
     def datagrams(self) -> Iterator[Datagram]:
         for packet in packets(self.stream):
             if packet.link not in LINKS:
                 raise NoCapture(f"a packet of link type {packet.link}, and known are {', '.join(map(str, LINKS))}")
-            self.latest_us = max(self.latest_us, packet.time_us)
+            time_us = packet.time_us + self._set_back_us
+            if time_us < self.latest_us - BACK_US:
+                self._set_back_us += self.latest_us - time_us
+                time_us = self.latest_us
+            self.latest_us = max(self.latest_us, time_us)
             self._read_at = time.monotonic()
             data = ip_packet(packet.link, packet.data)
-            found = None if data is None else self.datagram(data, packet.time_us)
+            found = None if data is None else self.datagram(data, time_us)
             if found is not None:
                 yield found
         self.is_over = True

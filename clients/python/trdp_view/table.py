@@ -10,11 +10,12 @@ from dataclasses import dataclass
 from enum import IntEnum
 
 import trdp_words
-from trdp_ports import Taker, seconds_left
+from trdp_ports import Taker
 
 from .network import Network
 from .report import place_of, row_text
 from .rows import Row
+from .sources import Live
 
 REFRESH = 0.25
 """How many seconds are between two pictures at most."""
@@ -156,13 +157,13 @@ class Screen:
 
 def run(window: curses.window, taker: Taker, network: Network, wanted: Wanted, end: float | None) -> None:
     """Shows the rows of what comes before a moment of `time.monotonic`, or until `q` is pressed."""
-    screen = Screen(window, " and ".join(taker.where.homes))
+    screen, source = Screen(window, " and ".join(taker.where.homes)), Live(taker)
     due = time.monotonic()
     while screen.answer() and (end is None or time.monotonic() < end):
         if time.monotonic() >= due:
-            screen.draw(lines_of(network, wanted, time.time_ns() // 1000))
+            screen.draw(lines_of(network, wanted, source.now_us()))
             due = time.monotonic() + REFRESH
-        for came in taker.take(min(seconds_left(due), seconds_left(end))):
+        for came in source.take(due if end is None else min(due, end)):
             network.add(came)
 
 

@@ -66,13 +66,13 @@ def leaves_in(datasets: Datasets, element: Element, entry: Any, name: str) -> It
     """The numbers in an entry of a value."""
     if isinstance(element.type, int):
         yield from leaves_of(datasets, element.type, entry, f"{name}.")
-    elif isinstance(entry, (int, float)) and math.isfinite(entry):
+    elif isinstance(entry, (int, float)) and math.isfinite(number := people_number(element, entry)):
         unit = f", {element.unit}" if element.unit else ""
-        yield name + unit, people_number(element, entry)
+        yield name + unit, number
 
 
 def people_number(element: Element, raw: float) -> float:
     """The number that people read, without digits that only the arithmetic of floats adds."""
     found = raw * element.scale + element.offset
-    decimals = known_decimals(element)
+    decimals = known_decimals(element) if math.isfinite(found) else None
     return float(found if decimals is None else round(found, decimals))

@@ -225,8 +225,8 @@ class Words(unittest.TestCase):
 
     def test_many_of_one_kind(self) -> None:
         """Neither many names that become one identifier take long, nor datasets that are many elements of others."""
-        names = ("".join(it) for it in itertools.product("-.+ ", "-.+ ", "-.+ ", "-.+ ", "-.+ ", "-.+ "))
-        sinks = "".join(f'<telegram name="{it}" com-id="5" type="sink" data-set-id="40">{PD}</telegram>' for it in names)
+        names = ("".join(it) for it in itertools.product("-.+ ", repeat=6))
+        sinks = "".join(f'<telegram name="{it}" com-id="5" type="sink" data-set-id="40"/>' for it in names)
         sets = data_set(40, *20_000 * ['type="41"']) + data_set(41, *20_000 * ['type="UINT8"'])
         begun = time.process_time()
         self.assertEqual(run(device(sinks, sets)).status, 3)

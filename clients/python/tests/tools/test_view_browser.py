@@ -6,10 +6,13 @@ import os
 import pathlib
 import tempfile
 import unittest
+from typing import Any
 
 import browser
+from made_capture import RAW_IP, pcap
 from running_view import View
 from test_view_page import NETWORK, SESSION
+from test_view_print import CAUGHT
 from testing import MD, PD, wait_until
 from two_daemons import DESK, DOOR, SINK, Case
 
@@ -19,6 +22,21 @@ LINES = ("[...document.querySelectorAll('#rows tbody tr')].map((it) => "
 STATE, TELEGRAM, NAME, SOURCE, DEST, VALUE, COUNT = 0, 2, 3, 4, 5, 6, 8
 LABELS = "[...document.querySelectorAll('#cycle-plot .dygraph-axis-label-x')].map((it) => it.textContent).join()"
 LADDER = "[...document.querySelectorAll('#ladder text')].map((it) => it.textContent)"
+# Events of a test's own, instead of those of the server.
+OWN_EVENTS = """
+window.EventSource = class extends EventTarget {
+  constructor() {
+    super();
+    window.tell = (told) => this.dispatchEvent(new MessageEvent("message", { data: JSON.stringify(told) }));
+  }
+};
+"""
+EVENT = {"version": 1, "now_us": 1, "sessions": [], "missing": [], "faults": [], "unread": 0, "left_out": 0,
+         "dropped": 0, "is_over": True}
+ROW: dict[str, Any] = {
+    "source": DOOR, "dest": SINK, "type": "Pd", "name": None, "text": "", "marks": [], "marked": {}, "count": 1,
+    "gaps": 0, "repeats": 0, "restarts": 0, "lost": 0, "latest_us": 1, "bytes_per_second": 0, "silent": False,
+}
 
 
 @unittest.skipUnless(browser.PROGRAM, browser.MISSING)
@@ -106,3 +124,43 @@ class Page(Case):
         self.assertEqual(self.line(2102)[STATE], "never seen")
         self.page.value("document.querySelector('#pause').click()")
         wait_until(lambda: self.line(2102)[STATE] == "ok")
+
+
+@unittest.skipUnless(browser.PROGRAM, browser.MISSING)
+class Paused(unittest.TestCase):
+    """A page that pauses, of a capture."""
+
+    def setUp(self) -> None:
+        folder = tempfile.TemporaryDirectory()
+        self.addCleanup(folder.cleanup)
+        capture = pathlib.Path(folder.name) / "some.pcap"
+        capture.write_bytes(pcap(RAW_IP, CAUGHT))
+        view = View(str(capture))
+        self.addCleanup(view.close)
+        self.page = browser.Browser()
+        self.addCleanup(self.page.close)
+        self.page.call("Page.addScriptToEvaluateOnNewDocument", source=OWN_EVENTS)
+        self.page.visit(view.address)
+        self.page.wait("'tell' in window")
+
+    def tell(self, *numbers: int, there: list[int] | None = None) -> None:
+        """Tells the page of rows, whose comIds are their numbers, and which are there, if some have given way."""
+        more = {} if there is None else {"numbers": there, "ids": []}
+        rows = [ROW | {"number": it, "com_id": it} for it in numbers]
+        self.page.value(f"window.tell({json.dumps(EVENT | {'rows': rows} | more)})")
+
+    def shown(self) -> list[str]:
+        """The comIds of all lines."""
+        return sorted(it[TELEGRAM].split()[0] for it in self.page.value(LINES))
+
+    def test_rows(self) -> None:
+        """What came and went while it paused is so afterwards."""
+        self.tell(1, 2, 3)
+        self.page.value("document.querySelector('#pause').click()")
+        self.tell(4)
+        self.tell(5, there=[2, 3, 5])
+        self.tell(2, 6)
+        self.assertEqual(self.shown(), ["1", "2", "3"])
+        self.page.value("document.querySelector('#pause').click()")
+        self.assertEqual(self.shown(), ["2", "3", "5", "6"])
+        self.assertEqual(self.page.said, [])

@@ -2,26 +2,31 @@
 from __future__ import annotations
 
 import io
+import math
 import random
+import struct
 import tracemalloc
 import unittest
 import uuid
 from collections.abc import Iterator
+from unittest import mock
 
 from made_capture import BEGIN_US, ETHERNET, RAW_IP, Caught, ethernet, in_fragments, ip, pcap, pcapng, udp
 from test_view_print import CAUGHT, DESK, DOORS, MD, MESSAGES, PD
 from testing import SEED
-from trdp_ports import Datagram
+from trdp_ports import Datagram, Taker
+from trdp_slot import Datasets, Element
 from trdp_telegram import Telegram
 from trdp_view.captures import NoCapture
 from trdp_view.fragments import ASSEMBLIES_MOST
 from trdp_view.kept import EACH, KEPT_MOST, Kept
 from trdp_view.known import File
 from trdp_view.network import FAULTS_MOST, Network
-from trdp_view.report import printed
+from trdp_view.report import page_row, printed
 from trdp_view.rows import QUIET_US, ROWS_MOST
 from trdp_view.sessions import SESSIONS_MOST, TELEGRAMS_MOST
-from trdp_view.sources import Capture
+from trdp_view.sources import Capture, Live
+from trdp_view.values import leaves
 
 SECOND = 1_000_000
 
@@ -78,6 +83,42 @@ class Limits(unittest.TestCase):
         self.assertEqual((len(network.sessions.by_id), network.sessions.dropped), (SESSIONS_MOST, 2))
         self.assertEqual((len(session.messages), session.left_out), (TELEGRAMS_MOST, 4))
         self.assertEqual(max(len(it.data) for it in session.messages), 116 + 1432)
+
+    def test_long_messages(self) -> None:
+        """The page is told how long a long message is. Its value is not made and kept."""
+        network = Network(File(), MD)
+        for payload, text in ((b"\1\2", "0102"), (bytes(60_000), "60000 bytes")):
+            network.add(came(0, Telegram("Mn", 300, payload=payload).write(), MD))
+            row = next(iter(network.rows.by_key.values()))
+            row.value = None
+            self.assertEqual(page_row(network, row)["text"], text)
+            self.assertEqual(row.value is None, len(payload) > 1432)
+
+    def test_numbers_that_are_not_finite(self) -> None:
+        """A number that a scale makes infinite isn't plotted: JSON has none such."""
+        dataset = Datasets({31: [Element("UINT64", 1, name="n", as_="REAL64", scale=10.0)]}, com_ids={5: 31})
+        for raw, wanted in ((1e300, {"n": 1e301}), (1e308, {}), (-1e308, {}), (math.nan, {})):
+            self.assertEqual(leaves(File(dataset), 5, struct.pack(">d", raw)), wanted)
+
+    def test_a_clock_that_is_set(self) -> None:
+        """The time of what comes goes on evenly if the clock of the machine is set."""
+        shown_us = BEGIN_US
+
+        class Given(Taker):
+            """Gives one datagram whenever it is asked."""
+
+            def __init__(self) -> None:
+                pass
+
+            def take(self, seconds: float) -> Iterator[Datagram]:
+                yield Datagram((DOORS, PD), (DESK, PD), b"", shown_us - 1000)
+
+        with mock.patch("trdp_view.sources.clock_us", lambda: shown_us):
+            source = Live(Given())
+            begun_us = source.now_us()
+            self.assertAlmostEqual(begun_us, BEGIN_US, delta=SECOND)
+            for shown_us in (BEGIN_US, BEGIN_US - 3600 * SECOND, 0, BEGIN_US + 3600 * SECOND):
+                self.assertAlmostEqual(next(source.datagrams()).time_us, begun_us - 1000, delta=10 * SECOND)
 
     def test_faults(self) -> None:
         """What is no telegram is counted for so many senders."""

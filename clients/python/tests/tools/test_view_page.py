@@ -10,6 +10,7 @@ import tempfile
 import unittest
 import uuid
 from typing import Any
+from urllib.parse import urlsplit
 
 from made_capture import RAW_IP, pcapng
 from running_view import View
@@ -166,6 +167,18 @@ class Served(unittest.TestCase):
             with self.view.ask(name, method, **headers) as answer:
                 self.assertEqual((name, method, headers, answer.status), (name, method, headers, status))
                 self.assertEqual({key: answer.getheader(key) for key in HEADERS}, HEADERS)
+
+    def test_a_request_without_a_version(self) -> None:
+        """It has all headers in its answer, too."""
+        parts = urlsplit(self.view.address)
+        assert parts.port is not None
+        for line in (f"GET {parts.path}\r\nHost: localhost\r\n\r\n", "GET / x\r\n\r\n"):
+            with socket.create_connection(("127.0.0.1", parts.port), timeout=20) as connection:
+                connection.sendall(line.encode())
+                with connection.makefile("rb") as answer:
+                    head = answer.read().partition(b"\r\n\r\n")[0].decode()
+            for name, text in HEADERS.items():
+                self.assertIn(f"\r\n{name}: {text}", head)
 
     def test_what_is_kept_is_a_capture(self) -> None:
         """The last minutes are saved as a capture, of which the same is printed."""

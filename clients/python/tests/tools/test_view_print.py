@@ -5,6 +5,7 @@ import contextlib
 import fcntl
 import io
 import json
+import os
 import pathlib
 import signal
 import subprocess
@@ -18,8 +19,8 @@ from typing import IO, Any
 from unittest import mock
 
 import trdp_view
-from made_capture import COOKED, COOKED_2, ETHERNET, RAW_IP, Caught, cooked, cooked_2, ethernet, in_fragments, ip
-from made_capture import pcap, pcapng, udp
+from made_capture import BEGIN_US, COOKED, COOKED_2, ETHERNET, RAW_IP, Caught, cooked, cooked_2, ethernet
+from made_capture import in_fragments, ip, pcap, pcapng, udp
 from test_traps import is_asleep
 from testing import PYTHON, wait_until
 from trdp_telegram import Telegram
@@ -196,6 +197,29 @@ class Print(unittest.TestCase):
             (2101, "Pd", DOORS, 0, []), (2101, "Pd", DOORS_2, 0, []),
             (2104, "Pd", DOORS, 1, []), (2104, "Pp", DOORS, 0, [])])
 
+    def test_a_clock_that_is_set(self) -> None:
+        """If the clock is set back in a capture, what still comes isn't silent, and what has ended is."""
+        hour = 3_600_000_000
+        caught = [sent(at * 100_000, DOORS, GROUP, Telegram("Pd", com_id, at)) for at in range(8) for com_id in (1, 2)]
+        caught += [sent(at * 100_000 - hour, DOORS, GROUP, Telegram("Pd", 1, at)) for at in range(8, 16)]
+        found = self.printed(pcap(RAW_IP, caught))["rows"]
+        self.assertEqual([(it["com_id"], it["count"], it["median_us"], it["silent"]) for it in found],
+                         [(1, 16, 100_000, False), (2, 8, 100_000, True)])
+
+    def test_the_highest_counter(self) -> None:
+        """After the highest counter comes 0. If the highest one is missing, that is a gap, and nothing began anew."""
+        for counters, gaps in (((0xFFFFFFFE, 0xFFFFFFFF, 0, 1), 0), ((0xFFFFFFFE, 0, 1), 1)):
+            caught = [sent(at, DOORS, GROUP, Telegram("Pd", 1, counter)) for at, counter in enumerate(counters)]
+            self.assertEqual([it["gaps"] for it in self.printed(pcap(RAW_IP, caught))["rows"]], [gaps])
+
+    def test_a_full_disk(self) -> None:
+        """If nothing can be printed, a sentence and the status say so."""
+        buffered = {name: text for name, text in os.environ.items() if name != "PYTHONUNBUFFERED"}
+        with open("/dev/full", "w", encoding="ascii") as full:
+            ran = subprocess.run([sys.executable, "-W", "error", "-m", "trdp_view", "-", "--print"], cwd=PYTHON,
+                                 env=buffered, input=pcap(RAW_IP, CAUGHT[:1]), stdout=full, stderr=subprocess.PIPE)
+        self.assertEqual((ran.returncode, ran.stderr), (1, b"trdp-view: No space left on device\n"))
+
     def test_captures(self) -> None:
         """The same telegrams in each form of a capture."""
         telegrams = [Telegram("Pd", 2101, counter, payload=CLOSED) for counter in range(3)]
@@ -237,6 +261,9 @@ class Print(unittest.TestCase):
             (pcap(195, CAUGHT), "-: a packet of link type 195, and known are 101, 228, 1, 113, 276"),
             (whole[:64] + b"\xff\xff\xff\x7f" + whole[68:], "-: this capture is damaged: a block of 2147483647 bytes"),
             (pcap(RAW_IP, CAUGHT)[:32] + b"\xff" * 8, "-: this capture is damaged: a packet of 4294967295 bytes"),
+            # Its times count seconds and not microseconds.
+            (pcapng(RAW_IP, CAUGHT[:1]).replace(b"\x09\0\1\0\6", b"\x09\0\1\0\0"),
+             f"-: this capture is damaged: a packet {BEGIN_US}000000 microseconds after 1970"),
         ]:
             self.assertEqual(self.run_view("-", "--print", given=given), (1, "", f"trdp-view: {said}\n"))
         for words, status, said in [

@@ -47,7 +47,12 @@ export function onChoice(made, act) {
   });
 }
 
+// What the server answers; null if it answers nothing, or that there is no such thing.
 export async function ask(way) {
-  const answer = await fetch(way);
-  return answer.ok ? answer.json() : null;
+  try {
+    const answer = await fetch(way);
+    return answer.ok ? await answer.json() : null;
+  } catch {
+    return null;
+  }
 }

@@ -54,7 +54,9 @@ export class Plots {
     this.asking = number;
     const after = this.points.length ? this.points[this.points.length - 1][0] : 0;
     const told = await ask(`history.json?row=${number}&after=${after}`);
-    this.asking = null;
+    if (this.asking === number) {
+      this.asking = null;
+    }
     if (told !== null && number === this.number && told.points.length) {
       this.points = [...this.points, ...told.points].slice(-POINTS_MOST);
       this.nameSeries(told.points);

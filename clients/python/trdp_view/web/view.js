@@ -82,9 +82,23 @@ function showFaults() {
 
 // Puts together what came while the page pauses, so that it never takes more than the rows do.
 function wait(told) {
-  const merge = (key, name) => [...new Map([...waiting[key], ...told[key]].map((it) => [it[name], it])).values()];
-  waiting = { ...waiting, ...told, isWhole: waiting.isWhole || told.isWhole, rows: merge("rows", "number"),
-    sessions: merge("sessions", "session") };
+  if (told.isWhole) {
+    waiting = told;
+    return;
+  }
+  const [rows, numbers] = merge("rows", "number", "numbers", told);
+  const [sessions, ids] = merge("sessions", "session", "ids", told);
+  waiting = { ...waiting, ...told, isWhole: waiting.isWhole, rows, numbers, sessions, ids };
+}
+
+// What waits of a list and what is told, the later of each key; and all keys that are there, if that was told.
+function merge(list, name, keys, told) {
+  const found = new Map([...waiting[list], ...told[list]].map((it) => [it[name], it]));
+  const there = told[keys] || (waiting[keys] && [...new Set([...waiting[keys], ...told[list].map((it) => it[name])])]);
+  if (there) {
+    keepOnly(found, there);
+  }
+  return [[...found.values()], there];
 }
 
 function pause() {
