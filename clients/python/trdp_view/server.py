@@ -1,10 +1,12 @@
 """Serves the page at 127.0.0.1, to browsers that know its token."""
 from __future__ import annotations
 
+import contextlib
 import json
 import pathlib
 import re
 import secrets
+import socket
 import socketserver
 import threading
 import urllib.parse
@@ -33,7 +35,7 @@ QUIET_SECONDS = 5.0
 STREAMS_MOST = 16
 """To how many pages the server tells changes at the same time."""
 THREADS_MOST = 64
-"""How many requests are served at the same time."""
+"""How many requests are served at the same time. If there are more, the one that is slowest to come is given up."""
 PATIENCE = 10.0
 """How many seconds a browser may take to send a request, or to take an answer."""
 
@@ -42,12 +44,16 @@ class Server(ThreadingHTTPServer):
     """The server of a page. It is bound when it is made: raises OSError with its place."""
 
     daemon_threads = True
+    request_queue_size = THREADS_MOST
 
     def __init__(self, port: int, page: Page) -> None:
         self.page = page
         self.token = secrets.token_urlsafe(16)
         self.files = {it.name: it.read_bytes() for it in WEB.iterdir() if it.suffix in TYPES}
         self.streams = threading.BoundedSemaphore(STREAMS_MOST)
+        self.lock = threading.Lock()
+        self.asking: dict[socket.socket, None] = {}
+        """The connections whose requests are not there yet, the one that is waited for longest first."""
         try:
             super().__init__((HOST, port), Handler)
         except OSError as fault:
@@ -64,10 +70,31 @@ class Server(ThreadingHTTPServer):
         self.server_name, self.server_port = HOST, self.server_address[1]
 
     def process_request(self, request: Any, client_address: Any) -> None:
-        if threading.active_count() > THREADS_MOST:
+        if threading.active_count() > THREADS_MOST and not self.end_slowest():
             self.shutdown_request(request)
         else:
             super().process_request(request, client_address)
+
+    def end_slowest(self) -> bool:
+        """Ends the connection whose request is waited for longest. Answers whether there was one."""
+        with self.lock:
+            slowest = next(iter(self.asking), None)
+            if slowest is None:
+                return False
+            del self.asking[slowest]
+            with contextlib.suppress(OSError):
+                slowest.shutdown(socket.SHUT_RDWR)
+            return True
+
+    def begins(self, connection: socket.socket) -> None:
+        """The request of a connection is waited for."""
+        with self.lock:
+            self.asking[connection] = None
+
+    def has_asked(self, connection: socket.socket) -> None:
+        """The request of a connection is there, or its end."""
+        with self.lock:
+            self.asking.pop(connection, None)
 
     def handle_error(self, request: Any, client_address: Any) -> None:
         """A browser that goes while it is answered is no fault."""
@@ -83,6 +110,20 @@ class Handler(BaseHTTPRequestHandler):
 
     def version_string(self) -> str:
         return "trdp-view"
+
+    def setup(self) -> None:
+        super().setup()
+        self.server.begins(self.connection)
+
+    def parse_request(self) -> bool:
+        try:
+            return super().parse_request()
+        finally:
+            self.server.has_asked(self.connection)
+
+    def finish(self) -> None:
+        self.server.has_asked(self.connection)
+        super().finish()
 
     def do_GET(self) -> None:
         hosts = self.headers.get_all("Host") or []

@@ -16,7 +16,7 @@ from made_capture import RAW_IP, pcapng
 from running_view import View
 from test_view_print import CAUGHT, MESSAGES, ROWS, TOML
 from testing import MD, PD, SECOND, wait_until
-from trdp_view.server import STREAMS_MOST, WEB
+from trdp_view.server import STREAMS_MOST, THREADS_MOST, WEB
 from two_daemons import DESK, DOOR, SINK, Case
 
 HEADERS = {
@@ -167,6 +167,16 @@ class Served(unittest.TestCase):
             with self.view.ask(name, method, **headers) as answer:
                 self.assertEqual((name, method, headers, answer.status), (name, method, headers, status))
                 self.assertEqual({key: answer.getheader(key) for key in HEADERS}, HEADERS)
+
+    def test_slow_connections(self) -> None:
+        """Connections that ask nothing, or slowly, keep no one else from the page."""
+        port = urlsplit(self.view.address).port
+        assert port is not None
+        with contextlib.ExitStack() as stack:
+            for _ in range(THREADS_MOST + 6):
+                slow = stack.enter_context(socket.create_connection(("127.0.0.1", port), timeout=20))
+                slow.sendall(b"GET /")
+            self.assertEqual([self.view.json("begin.json")["title"] for _ in range(10)], 10 * ["some.pcapng"])
 
     def test_a_request_without_a_version(self) -> None:
         """It has all headers in its answer, too."""
