@@ -1,7 +1,6 @@
 """Reads the datasets of a device configuration. Whatever can't be meant is a DeviceFault with its line."""
 from __future__ import annotations
 
-import re
 from collections.abc import Iterator, Sequence
 
 from ._device import DataSet, Element
@@ -10,8 +9,6 @@ from ._shown import shown
 from ._tree import Node
 from ._types import BASIC, NUMBERED
 from ._words import U32_MOST, missing, needed_number_at, number_at, number_of, real_at, text_at
-
-CONTROL = re.compile(r"[\x00-\x1f\x7f-\x9f]")
 
 
 def read_datasets(nodes: Sequence[Node]) -> dict[int, DataSet]:
@@ -34,7 +31,7 @@ def read_datasets(nodes: Sequence[Node]) -> dict[int, DataSet]:
 def read_element(node: Node) -> Element:
     """An element of a dataset."""
     size = number_at(node, "array-size")
-    unit = CONTROL.sub(" ", node.attributes.get("unit", "")).strip()
+    unit = "".join(it if it.isprintable() else " " for it in node.attributes.get("unit", "")).strip()
     return Element(node.line, text_at(node, "name") or "", type_at(node), 1 if size is None else size, unit,
                    real_at(node, "scale", 1.0), real_at(node, "offset", 0.0))
 

@@ -15,8 +15,7 @@ UDP = 17
 LAG_US = 1_000_000
 """By how much a capture that grows may be behind: who writes it does so in bursts."""
 BACK_US = 10_000_000
-"""By how much a packet may be before an earlier one, and how long a datagram may wait to be read: if it is more, the
-clock was set."""
+"""By how much a packet of a capture may be before an earlier one: if it is more, the clock was set."""
 
 
 class Source:
@@ -44,6 +43,7 @@ class Live(Source):
     def __init__(self, taker: Taker) -> None:
         self.taker = taker
         self._ahead_us = clock_us() - time.monotonic_ns() // 1000
+        self._begun_us = self.now_us()
 
     def datagrams(self) -> Iterator[Datagram]:
         while True:
@@ -52,8 +52,9 @@ class Live(Source):
     def take(self, end: float | None) -> Iterator[Datagram]:
         """What there is, if something comes before that moment of `time.monotonic`."""
         for came in self.taker.take(seconds_left(end)):
-            age_us = clock_us() - came.time_us
-            yield came._replace(time_us=self.now_us() - (age_us if 0 <= age_us < BACK_US else 0))
+            now_us, age_us = self.now_us(), clock_us() - came.time_us
+            # If the clock was set after it came, nothing says how old it is.
+            yield came._replace(time_us=now_us - (age_us if 0 <= age_us <= now_us - self._begun_us else 0))
 
     def now_us(self) -> int:
         return time.monotonic_ns() // 1000 + self._ahead_us

@@ -212,10 +212,10 @@ class Rules(unittest.TestCase):
                       found.report)
 
     def test_names_and_numbers(self) -> None:
-        """Names are spelled and cut, a scale of 0 and control characters of a unit are left out."""
+        """Names are spelled and cut, a scale of 0 and what of a unit can't be seen are left out."""
         found = run(device(
             f'<telegram name="{300 * "n"}" com-id="5" type="sink" data-set-id="40"><pd-parameter/></telegram>',
-            data_set(40, 'type="INT8" name="a-b" unit=" a&#10;&quot;\\ " scale=".50" offset="-1e0"',
+            data_set(40, 'type="INT8" name="a-b" unit=" a&#10;&quot;\\ &#x202e;" scale=".50" offset="-1e0"',
                      'type="INT8" name="A b" scale="0"')))
         self.assertEqual(found.lines()[0], f"# {200 * 'n'}")
         self.assertIn('    { name = "a_b", type = "INT8", unit = "a \\"\\\\", scale = 0.5, offset = -1 },\n'
