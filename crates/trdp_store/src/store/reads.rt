@@ -1,15 +1,15 @@
 //! What a store shows: its slots, the keys of their objects, and when something is due next.
 
-ghost use Rattle.std.specs.Prelude.{◌≡◌, ℕ, ◌<◌, ◌≤◌, length, Some};
+ghost use Rattle.std.specs.Prelude.{◌≡◌, ℕ, ◌<◌, ◌≤◌, ◌*◌, length, Some};
 ghost use Rattle.std.specs.Prelude.{slice_get, slice_index, option_map};
 ghost use Rattle.trdp_base.specs.QuotaLimits.{quota_limit};
 ghost use Rattle.trdp_model.specs.declared.any_object.AnyObject.{AnyObject};
-ghost use Rattle.trdp_table.specs.Tables.{Keyed, refusal, slot_in, all_objects};
+ghost use Rattle.trdp_table.specs.Tables.{Keyed, refusal, slot_in, all_objects, room_of};
 ghost use Rattle.trdp_model.specs.Kinds.{kind_index};
 ghost use Rattle.trdp_model.specs.Slots.{kind_count, slot_limit};
 ghost use Rattle.trdp_table.specs.Tables.{by_handle, by_key, changed_at};
 ghost use Rattle.trdp_table.specs.Tables.{exchanged, with_other_by_handle};
-ghost use Rattle.trdp_table.specs.TableLaws.{IsTable};
+ghost use Rattle.trdp_table.specs.TableLaws.{IsTable, object_limit};
 ghost use Rattle.trdp_model.specs.Openings.{opening_refusal};
 ghost use Rattle.trdp_table.specs.Refusals.{table_refusal};
 ghost use Rattle.trdp_store.specs.Acting.{slot_at};
@@ -27,6 +27,16 @@ impl Store {
         ensures within { result ≤ slot_limit }
     {
         self.table.slots()
+    }
+
+    /// How many objects all slots together can have, which is the total of their quotas, at most
+    /// 24,576. Only a slot that is opened changes it: it rises.
+    pub fn room(&self) -> usize
+        ensures room { result ≡ room_of self.now }
+        ensures within { result ≤ 16 * object_limit }
+    {
+        self.table.sound();
+        self.table.room()
     }
 
     /// The key of a slot's object of that handle; None where the slot has none.
@@ -85,6 +95,7 @@ impl Store {
             → by_handle handle (slot_in s self.now).objects ≡ Some keyed
             → exchanged keyed.key self.now object
             ≡ changed_at s (with_other_by_handle handle object) self.now }
+        ensures room { length (all_objects self.now) ≤ room_of self.now }
     {
         self.table.sound();
     }
