@@ -47,6 +47,8 @@ MADE_UP: dict[str, dict[str, Any]] = {
         "telegram out, 256 publishers")]},
     "script_lines": {"rows": [{"script": script, "lines": lines, "seconds": lines / 4.7e6, "peak_kib": 1945}
                               for script in ("puts", "mixed") for lines in (100_000, 1_000_000)]},
+    "node_memory": {"rows": [{"slots": slots, "objects": objects, "bytes": size}
+                             for slots, objects, size in ((1, 8, 180_000), (16, 24_576, 15_000_000))]},
     "many_objects": {"rows": [{"objects": objects, "slots": slots, "accepted_ns": time}
                               for objects, slots, time in ((1, 1, 400.0), (256, 16, 452.0))]},
     "reset": {"objects": 1536, "others": 23040, "full_us": 345.0, "late": {"alone": TIMES, "beside": TIMES}},

@@ -7,7 +7,7 @@ from collections.abc import Callable, Sequence
 from dataclasses import dataclass
 
 import results
-from blocks.words import (NONE, NOT_YET, Figures, about, figure_of, find, mib, percent, ratio, short, table,
+from blocks.words import (NONE, NOT_YET, Figures, about, figure_of, find, kib, mib, percent, ratio, short, table,
                           times)
 
 # Of what serve.py measures, the rows that are shown, and their words here.
@@ -138,10 +138,17 @@ def played_memory(figures: Figures) -> list[Cells]:
     return [[f"`trdpd run`, {most:,} lines", "", mib(max(it["peak_kib"] for it in figures["rows"]))]]
 
 
+def asked_for(figures: Figures) -> list[Cells]:
+    """What a program has asked for, of which the system gives only the pages that are used."""
+    quotas = " and for ".join(f"{it['objects']:,}" for it in figures["rows"])
+    return [[f"`trdpd run` before its first line, with quotas for {quotas} objects: memory asked for",
+             "; ".join(kib(it["bytes"]) for it in figures["rows"])]]
+
+
 def memory(folder: pathlib.Path) -> list[str]:
     return lines(("The program", "Memory", "At most"),
-                 (Part("daemon-rest", "`trdpd daemon`", held), Part("script_lines", "`trdpd run`", played_memory)),
-                 folder)
+                 (Part("daemon-rest", "`trdpd daemon`", held), Part("script_lines", "`trdpd run`", played_memory),
+                  Part("node_memory", "`trdpd run` before its first line: memory asked for", asked_for)), folder)
 
 
 def proof(folder: pathlib.Path) -> list[str]:

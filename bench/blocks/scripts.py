@@ -93,6 +93,7 @@ SCRIPTS = (
            "serve"),
     Script("How fast does `trdpd run` play a script?", "bench/script_lines.py", "0.2", "", "script_lines",
            played),
+    Script("How much memory does a node ask for?", "bench/node_memory.py", "0.1", "gcc", "node_memory"),
     Script("Does an event cost more if slots have many objects?", "bench/many_objects.py", "3", "", "many_objects",
            objects),
     Script("How long does a reset take, and what does the next slot notice?", "bench/reset.py", "2", "", "reset"),

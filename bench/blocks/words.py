@@ -39,6 +39,11 @@ def mib(kib: float | None) -> str:
     return NONE if kib is None else f"{kib / 1024:.1f} MiB"
 
 
+def kib(size: int | None) -> str:
+    """Memory that is counted in bytes."""
+    return NONE if size is None else f"{size / 1024:,.0f} KiB"
+
+
 def times(figures: Figures, *names: str) -> str:
     """The median and the 99th percentile, or other figures of times in microseconds."""
     return ", ".join(short(figures[f"{name}_us"]) for name in names or ("median", "p99"))
