@@ -7,7 +7,6 @@ ghost use Rattle.std.specs.Prelude.{ℕ, ◌^◌};
 ghost use Rattle.std.specs.List.{flat_map};
 ghost use Rattle.trdp_head.specs.Limits.{md_payload_limit};
 ghost use Rattle.trdp_filter.specs.Telegrams.{telegram_model};
-ghost use Rattle.trdp_table.specs.TableLaws.{object_limit};
 ghost use Rattle.trdp_table.specs.Tables.{room_of};
 ghost use Rattle.trdp_store.specs.TableSlots.{slots_of};
 ghost use Rattle.trdp_model.specs.Datagrams.{acting};
@@ -115,7 +114,9 @@ fn note_part(
     requires slot { s < length store.now }
     requires part { part_of (telegram_model awaited.now.telegram.now)
         ≡ Some (awaited.now.session, awaited.now.role) }
-    requires capacity { vec_len noted.old < vec_capacity noted.old }
+    requires capacity { vec_len noted.old
+        + meant_in (telegram_model awaited.now.telegram.now) (slot_at s store.now).objects
+        ≤ vec_capacity noted.old }
     ensures noted { noted.new.items ≡ noted.old.items ++ noted_as s
         (acting (telegram_model awaited.now.telegram.now) awaited.now.globals.now
         (slot_at s store.now).objects) }
@@ -165,7 +166,8 @@ fn note_run(
     noted: &mut Vec<Addressee>,
     counts: &mut Counts,
 ) -> Room
-    requires capacity { vec_len noted.old + 16 * object_limit ≤ vec_capacity noted.old }
+    requires capacity { vec_len noted.old + length (rows_from 0 (Some com_id) store.now)
+        ≤ vec_capacity noted.old }
     ensures noted { noted.new.items ≡ noted.old.items
         ++ noted_rows (telegram_model telegram.now) globals.entry.now store.now
         (rows_from 0 (Some com_id) store.now) }
@@ -204,7 +206,8 @@ fn note_parts(
     noted: &mut Vec<Addressee>,
     counts: &mut Counts,
 ) -> Room
-    requires capacity { 16 * object_limit ≤ vec_capacity noted.old }
+    requires capacity { meant_of (telegram_model awaited.now.telegram.now) (slots_of store.now)
+        ≤ vec_capacity noted.old }
     requires part { part_of (telegram_model awaited.now.telegram.now)
         ≡ Some (awaited.now.session, awaited.now.role) }
     ensures noted { noted.new.items
@@ -235,7 +238,8 @@ fn note_parts(
 /// Notes the listener of slot `s` that hears a message, if one does, and returns the room for what
 /// it may record.
 fn note_listener(heard: &Heard, s: u16, noted: &mut Vec<Addressee>) -> Room
-    requires { vec_len noted.old < vec_capacity noted.old }
+    requires { vec_len noted.old + length (noted_listener s (slice_index_or heard.now s None))
+        ≤ vec_capacity noted.old }
     ensures noted { noted.new.items
         ≡ noted.old.items ++ noted_listener s (slice_index_or heard.now s None) }
     ensures room { result ≡ listener_room (slice_index_or heard.now s None) }
@@ -265,7 +269,8 @@ fn note_hearers(
     noted: &mut Vec<Addressee>,
     counts: &mut Counts,
 ) -> Room
-    requires capacity { 16 * object_limit ≤ vec_capacity noted.old }
+    requires capacity { meant_of (telegram_model telegram.now) (slots_of store.now)
+        ≤ vec_capacity noted.old }
     requires unasked { comes_unasked (telegram_model telegram.now) ≡ true }
     ensures noted { noted.new.items
         ≡ noted_from 0 (telegram_model telegram.now) globals.entry.now (slots_of store.now) }
@@ -301,7 +306,7 @@ pub fn note_all(
     noted: &mut Vec<Addressee>,
     counts: &mut Counts,
 ) -> Room
-    requires capacity { 16 * object_limit ≤ vec_capacity noted.old }
+    requires capacity { room_of store.now ≤ vec_capacity noted.old }
     ensures noted { noted.new.items
         ≡ noted_from 0 (telegram_model telegram.now) globals.entry.now (slots_of store.now) }
     ensures room { result ≡ entries_room

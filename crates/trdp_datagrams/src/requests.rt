@@ -98,6 +98,7 @@ pub fn ask_all(
         → HasOutcome (slots_of store.new) out.old.records out.new.records s
         (requested slot globals.entry.now (telegram_model telegram.now)) }
     ensures appends { Appends (slots_of store.old) out.old.records out.new.records }
+    ensures room { room_of store.new ≡ room_of store.old }
     ensures comparisons { (b : ℕ) → room_of store.old < 2 ^ b
         → counts.new.comparisons ≤ counts.old.comparisons + length noted.now * (2 * b + 2) }
     ensures tests { counts.new.tests ≡ counts.old.tests }

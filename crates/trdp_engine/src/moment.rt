@@ -106,6 +106,7 @@ pub fn fire_all(store: &mut Store, globals: &Globals, out: &mut Outbox, counts: 
         → HasOutcome (slots_of store.new) out.old.records out.new.records s
         (moved_to slot globals.entry.now) }
     ensures appends { Appends (slots_of store.old) out.old.records out.new.records }
+    ensures room { room_of store.new ≡ room_of store.old }
     ensures comparisons { (b : ℕ) → room_of store.old < 2 ^ b
         → counts.new.comparisons ≤ counts.old.comparisons
         + (due_in globals.entry.now.now (slots_of store.old) * (4 * b + 5) + 1) }

@@ -44,19 +44,19 @@ pub struct Node {
     /// added.
     store: Store,
     /// The objects that act at the telegram that is being handled; between events it says nothing.
-    /// It has room for all objects, so that a telegram takes no memory for it.
+    /// It has room for as many objects as all quotas allow, so that no telegram takes memory for it.
     noted: Vec<Addressee>,
     /// What the latest event that it accepted cost.
     counts: Counts,
 }
 
 impl Model for Node {
-    ghost use Rattle.std.specs.Prelude.{◌≤◌, ◌*◌, vec_capacity};
+    ghost use Rattle.std.specs.Prelude.{◌≤◌, vec_capacity};
     ghost use Rattle.trdp_base.specs.Moments.{last_moment};
     ghost use Rattle.trdp_dataset.specs.Registries.{IsRegistry};
     ghost use Rattle.trdp_model.specs.Configs.{setup_of};
     ghost use Rattle.trdp_engine.specs.NodeStates.{NodeState};
-    ghost use Rattle.trdp_table.specs.TableLaws.{object_limit};
+    ghost use Rattle.trdp_table.specs.Tables.{room_of};
     ghost use Rattle.trdp_store.specs.TableSlots.{slots_of};
     ghost use Rattle.trdp_model.specs.Fitting.{EachFits};
 
@@ -71,7 +71,7 @@ impl Model for Node {
 
     ghost invariant = { λ n. (n.globals.now ≤ last_moment) × IsRegistry n.config.registry
         × EachFits (setup_of n.config) (slots_of n.store)
-        × (16 * object_limit ≤ vec_capacity n.noted) };
+        × (room_of n.store ≤ vec_capacity n.noted) };
 }
 
 impl Node {

@@ -1,7 +1,7 @@
 //! The parts of a new node.
 
-ghost use Rattle.std.specs.Prelude.{◌≡◌, ◌*◌, ◌≤◌, length, IfOk, map, vec_capacity};
-ghost use Rattle.trdp_table.specs.TableLaws.{object_limit};
+ghost use Rattle.std.specs.Prelude.{◌≡◌, ◌≤◌, length, IfOk, map, vec_capacity};
+ghost use Rattle.trdp_table.specs.Tables.{room_of};
 ghost use Rattle.trdp_model.specs.Slots.{empty_slot};
 ghost use Rattle.trdp_store.specs.TableSlots.{slots_of};
 
@@ -10,9 +10,6 @@ use trdp_base::Quotas;
 use trdp_datagrams::Addressee;
 use trdp_dataset::NodeConfig;
 use trdp_store::Store;
-
-/// The most objects of a node: 256 of each of six kinds in each of 16 slots (profile).
-const NOTED_MAX: usize = 24_576;
 
 /// The quotas of each slot of the configuration.
 ///
@@ -30,17 +27,17 @@ fn quotas_of(alloc: Global, config: &NodeConfig) -> Result<Vec<Quotas>, AllocErr
     Ok(quotas)
 }
 
-/// The empty store of a configuration, and room to note all objects that it can hold.
+/// The empty store of a configuration, and room to note as many objects as its quotas allow.
 ///
 /// # Errors
 /// [`AllocError`] where there is no memory for one of them.
 pub fn parts(alloc: Global, config: &NodeConfig) -> Result<(Store, Vec<Addressee>), AllocError>
     ensures slots { IfOk result
         (λ parts. slots_of parts.0 ≡ map (λ slot. empty_slot slot.quotas) config.now.slots) }
-    ensures capacity { IfOk result (λ parts. 16 * object_limit ≤ vec_capacity parts.1) }
+    ensures capacity { IfOk result (λ parts. room_of parts.0 ≤ vec_capacity parts.1) }
 {
     let quotas = quotas_of(alloc, config)?;
     let store = Store::new(alloc, &quotas)?;
-    let noted = Vec::with_capacity(alloc, NOTED_MAX)?;
+    let noted = Vec::with_capacity(alloc, store.room())?;
     Ok((store, noted))
 }

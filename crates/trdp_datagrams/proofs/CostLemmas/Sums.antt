@@ -1,12 +1,13 @@
 -- Sums over the objects of slots.
 -- For `CostLemmas.Telegrams`.
 -- By induction on the objects.
-use Rattle.std.proofs.Common.{◌≡◌, ℕ, ◌+◌, ◌≤◌, List, [], ◌∷◌, cond, Some}
+use Rattle.std.proofs.Common.{◌≡◌, ℕ, ◌+◌, ◌≤◌, List, [], ◌∷◌, length, cond, Some}
 use Rattle.std.proofs.Common.{Bool, true, false, refl, ap, arith}
 use Rattle.std.specs.Prelude.{◌==◌}
+use Rattle.std.proofs.lemmas.List.{length-append}
 use Rattle.std.proofs.lemmas.Option.{same_Some, none-some}
 use Rattle.trdp_model.specs.declared.any_object.AnyObject.{AnyObject}
-use Rattle.trdp_table.specs.Tables.{Keyed, TableState, by_handle}
+use Rattle.trdp_table.specs.Tables.{Keyed, TableState, all_objects, by_handle}
 
 -- Sums over the objects.
 
@@ -45,6 +46,27 @@ pub total_of-both : (f g h : AnyObject → ℕ)
 total_of-both f g h le [] = omega arith
 total_of-both f g h le (x ∷ xs) =
     omega (arith, total_both f g h le x.objects, total_of-both f g h le xs)
+
+pub one_if-few : (b : Bool) → one_if b ≤ 1
+one_if-few true = omega arith
+one_if-few false = omega arith
+
+total_few : (f : AnyObject → ℕ) → ((object : AnyObject) → f object ≤ 1)
+    → (ks : List Keyed) → total f ks ≤ length ks
+total_few f once [] = omega arith
+total_few f once (k ∷ ks) = omega (arith, once k.object, total_few f once ks)
+
+-- where each counts once at most, they are no more than the objects
+pub total_of-few : (f : AnyObject → ℕ) → ((object : AnyObject) → f object ≤ 1)
+    → (table : TableState) → total_of f table ≤ length (all_objects table)
+total_of-few f once [] = omega arith
+total_of-few f once (x ∷ xs) =
+    omega (
+      arith,
+      total_few f once x.objects,
+      total_of-few f once xs,
+      length-append x.objects (all_objects xs),
+    )
 
 -- one of them counts
 pub found_total : (f : AnyObject → ℕ) (h : ℕ) (ks : List Keyed) (keyed : Keyed)

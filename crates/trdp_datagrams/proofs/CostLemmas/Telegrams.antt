@@ -24,7 +24,7 @@ use Rattle.trdp_model.specs.declared.any_object.AnyObject.TheVariants.{Requester
 use Rattle.trdp_model.specs.declared.any_object.AnyObject.TheVariants.{Caller, Replier}
 use Rattle.trdp_model.specs.Objects.{is_addressed}
 use Rattle.trdp_table.specs.Tables.{Keyed, SlotTable, TableState, slot_in}
-use Rattle.trdp_table.specs.Tables.{all_quotas, room_of}
+use Rattle.trdp_table.specs.Tables.{all_objects, all_quotas, room_of}
 use Rattle.trdp_index.specs.ComRows.{is_same_com}
 use Rattle.trdp_model.specs.Slots.{Entry, SlotState}
 use Rattle.trdp_store.specs.TableSlots.{entry_of_keyed, slot_of, slots_of}
@@ -39,7 +39,7 @@ use Rattle.trdp_datagrams.proofs.NoteLemmas.Noted.{split}
 use Rattle.trdp_datagrams.proofs.NoteLemmas.FirstListeners.{Hears, InOwn, InAny, Unlisted, Passes}
 use Rattle.trdp_datagrams.proofs.NoteLemmas.FirstListeners.{hears}
 use Rattle.trdp_datagrams.proofs.CostLemmas.Sums.{one_if, total, total_of, total_of-le}
-use Rattle.trdp_datagrams.proofs.CostLemmas.Sums.{total_of-both}
+use Rattle.trdp_datagrams.proofs.CostLemmas.Sums.{total_of-both, one_if-few, total_of-few}
 
 -- The rows of a comId.
 
@@ -118,6 +118,37 @@ total_room (x ∷ xs) =
     sum_by-cons (λ (slot : SlotState). all_quotas slot.quotas) (slot_of x) (slots_of xs)
     ∙ (ap (λ n. all_quotas x.quotas + n) (total_room xs)
     ∙ sym (sum_by-cons (λ (slot : SlotTable). all_quotas slot.quotas) x xs))
+
+-- Both are within the room.
+
+listed_once : (com_id : Option ℕ) (object : AnyObject) → listed_one com_id object ≤ 1
+unfolding listed_one
+listed_once com_id object = one_if-few (is_listed com_id object)
+
+meant_once : (telegram : TelegramModel) (object : AnyObject) → meant_one telegram object ≤ 1
+unfolding meant_one
+meant_once telegram object = one_if-few (is_meant telegram object)
+
+pub rows_within : (com_id : Option ℕ) (table : TableState)
+    → length (all_objects table) ≤ room_of table
+    → length (rows_from 0 com_id table) ≤ room_of table
+rows_within com_id table le =
+    omega (
+      arith,
+      le,
+      rows-total 0 com_id table,
+      total_of-few (listed_one com_id) (listed_once com_id) table,
+    )
+
+pub meant_within : (telegram : TelegramModel) (table : TableState)
+    → length (all_objects table) ≤ room_of table → meant_of telegram (slots_of table) ≤ room_of table
+meant_within telegram table le =
+    omega (
+      arith,
+      le,
+      meant_of-total telegram table,
+      total_of-few (meant_one telegram) (meant_once telegram) table,
+    )
 
 -- Which objects these are.
 

@@ -3,12 +3,13 @@
 -- By cases on the number: the slot that was served, or any other, which keeps what it had.
 use Rattle.std.proofs.Common.{◌≡◌, ℕ, ◌<◌, List, [], ◌∷◌, length, map, filter, refl}
 use Rattle.std.proofs.Common.{arith, inl, inr, ◌∙◌, ap, sym, Some}
-use Rattle.std.specs.Prelude.{slice_get, ◌==◌, if◌then◌else◌}
+use Rattle.std.specs.Prelude.{slice_get, slice_set, ◌==◌, if◌then◌else◌}
 use Rattle.std.specs.List.{flat_map}
 use Rattle.std.proofs.lemmas.List.{length-set}
 use Rattle.std.proofs.lemmas.List.Concat.{length-flat_map}
 use Rattle.trdp_dataset.specs.Configs.{SlotModel}
 use Rattle.trdp_table.specs.Tables.{TableState, opened_slot as opened_slot_table}
+use Rattle.trdp_table.specs.Tables.{all_quotas, room_of}
 use Rattle.trdp_model.specs.Slots.{Entry, SlotState, Outcome, unchanged, empty_slot}
 use Rattle.trdp_store.specs.TableSlots.{slots_of}
 use Rattle.trdp_outbox.specs.Outboxes.{OutboxState}
@@ -18,6 +19,9 @@ use Rattle.trdp_outbox.specs.Rooms.{LacksRoom, entries_room, moment_room}
 use Rattle.trdp_store.specs.Acting.{slot_at, Becomes}
 use Rattle.trdp_store.proofs.StoreLemmas.Slots.{slots_length, slot_there}
 use Rattle.trdp_model.proofs.SweepLemmas.{one_part, one_appends}
+use Rattle.trdp_datagrams.specs.Meant.{quota_total}
+use Rattle.trdp_datagrams.proofs.CostLemmas.Acts.{count_set}
+use Rattle.trdp_datagrams.proofs.CostLemmas.Telegrams.{total_room}
 
 -- as many slots as before
 pub became_count :
@@ -30,6 +34,21 @@ became_count s outcome table table_then out out_then is = ap length is.slots
 pub same_count : (table table_then : TableState)
     → length table_then ≡ length table → length (slots_of table_then) ≡ length (slots_of table)
 same_count table table_then same = slots_length table_then ∙ (same ∙ sym (slots_length table))
+
+-- the room stays, if the quotas of the slot do
+pub became_room :
+    (s : ℕ) (outcome : Outcome) (table table_then : TableState) (out out_then : OutboxState)
+    → s < length table → outcome.slot.quotas ≡ (slot_at s table).quotas
+    → Becomes s outcome table table_then out out_then → room_of table_then ≡ room_of table
+became_room s outcome table table_then out out_then lt same is =
+    let sums = count_set (λ (slot : SlotState). all_quotas slot.quotas)
+    (slots_of table) s (slot_at s table) outcome.slot (slot_there table s lt) in
+    let own : all_quotas outcome.slot.quotas ≡ all_quotas (slot_at s table).quotas =
+    ap all_quotas same in
+    let stays :
+    quota_total (slice_set (slots_of table) s outcome.slot) ≡ quota_total (slots_of table) =
+    omega (arith, sums, own) in
+    sym (total_room table_then) ∙ (ap quota_total is.slots ∙ (stays ∙ total_room table))
 
 -- each slot has its outcome: the one that was served its own, the others none
 pub became_parts :

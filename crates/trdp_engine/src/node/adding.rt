@@ -12,10 +12,11 @@ use trdp_base::Quotas;
 use trdp_model::{NodeFault, SLOTS_MAX};
 use trdp_outbox::{Outbox, PlainAnswer};
 use trdp_store::Counts;
+use trdp_table::room_of;
 
 impl Node {
-    /// Opens the next slot, empty, with these quotas, and records that it is open: room for its
-    /// objects and for the record is made first.
+    /// Opens the next slot, empty, with these quotas, and records that it is open. Room to note its
+    /// objects, for the objects and for the record is made first.
     ///
     /// # Errors
     /// The first that applies of `SlotsFull` and `OutOfMemory`.
@@ -38,6 +39,9 @@ impl Node {
         if self.store.slots() >= SLOTS_MAX {
             return Err(NodeFault::SlotsFull);
         }
+        let room = self.store.room() + room_of(quotas);
+        self.noted.clear();
+        self.noted.reserve_exact(room)?;
         let slot = self.store.open_slot(quotas, out)?;
         out.push_plain_answer(slot, PlainAnswer::Opened);
         self.counts = Counts::none();

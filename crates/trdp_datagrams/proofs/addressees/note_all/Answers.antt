@@ -1,10 +1,11 @@
-use Rattle.std.proofs.Common.{◌≡◌, ◌∙◌, sym, ap, length, arith}
+use Rattle.std.proofs.Common.{◌≡◌, Some, ◌∙◌, sym, ap, length, arith}
 use Rattle.trdp_filter.specs.Telegrams.{telegram_model}
 use Rattle.trdp_head.specs.declared.pd.PdKind.TheVariants.{PullRequest}
 use Rattle.trdp_head.specs.PdTelegrams.{PdTelegram}
 use Rattle.trdp_datagrams.specs.Sought.{sought_by}
 use Rattle.trdp_datagrams.proofs.CostLemmas.Sessions.{part_asked}
 use Rattle.trdp_datagrams.proofs.CostLemmas.Telegrams.{data_rows, heard_rows}
+use Rattle.trdp_datagrams.proofs.CostLemmas.Telegrams.{rows_within, meant_within}
 use Rattle.trdp_datagrams.proofs.NoteLemmas.ListenersAlone.{unasked_part}
 use Rattle.trdp_store.proofs.StoreLemmas.Keys.{KeysTell}
 use Rattle.trdp_datagrams.proofs.NoteLemmas.ByCom.{sought_reply, sought_own, run_noted, run_room}
@@ -44,6 +45,32 @@ returns-after-head-clause-room c =
     let room = rw (found after) at c.note_run.ensures.room in
     rw c.in-Pd.is (rw c.in-Pd.is at room
     ∙ run_room c.args.store.now c.in-Pd.src c.in-Pd.dst _ c.args.globals.now tell)
+
+pub note_run-requires : goal.note_run-requires
+note_run-requires c =
+    omega (
+      arith,
+      rows_within (Some c.match-head.com_id) c.args.store.now c.sound.ensures.room,
+      c.clear.ensures.len,
+      c.clear.ensures.capacity,
+      c.requires.capacity,
+    )
+
+pub note_hearers-requires-clause-capacity : goal.note_hearers-requires-clause-capacity
+note_hearers-requires-clause-capacity c =
+    omega (
+      arith,
+      meant_within (telegram_model c.args.telegram.now) c.args.store.now c.sound.ensures.room,
+      c.requires.capacity,
+    )
+
+pub note_parts-requires-clause-capacity : goal.note_parts-requires-clause-capacity
+note_parts-requires-clause-capacity c =
+    omega (
+      arith,
+      meant_within (telegram_model c.args.telegram.now) c.args.store.now c.sound.ensures.room,
+      c.requires.capacity,
+    )
 
 pub note_hearers-requires-clause-unasked : goal.note_hearers-requires-clause-unasked
 note_hearers-requires-clause-unasked c =

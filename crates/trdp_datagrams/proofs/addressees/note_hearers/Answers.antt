@@ -12,6 +12,26 @@ use Rattle.trdp_datagrams.proofs.NoteLemmas.Noted.{notes_all_end_room}
 use Rattle.trdp_datagrams.proofs.NoteLemmas.ListenersAlone.{noted_heard, room_heard}
 use Rattle.trdp_datagrams.proofs.addressees.note_hearers.Goals as goal
 
+pub note_listener-requires : goal.note_listener-requires
+note_listener-requires c =
+    let there : c.loop-s.s < length c.args.store.now =
+    omega (arith, c.loop-s-test.true, c.slots-s-end.ensures.count) in
+    let lt : c.loop-s.s < length (slots_of c.args.store.now) =
+    omega (arith, there, slots_length c.args.store.now) in
+    let left = meant_of-drop (telegram_model c.args.telegram.now)
+    (slots_of c.args.store.now) (slot_at c.loop-s.s c.args.store.now)
+    c.loop-s.s lt (slot_there c.args.store.now c.loop-s.s there) in
+    let one = heard_counted (telegram_model c.args.telegram.now)
+    c.args.globals.now c.args.store.now c.loop-s.s c.requires.unasked in
+    rw (c.hearers-heard.ensures.heard c.loop-s.s there) (omega (
+      arith,
+      one,
+      left,
+      c.loop-s.invariant.few,
+      c.loop-s.invariant.capacity,
+      c.requires.capacity,
+    ))
+
 pub loop-s-preserved : goal.loop-s-preserved
 loop-s-preserved c =
     let there : c.loop-s.s < length c.args.store.now =

@@ -128,3 +128,11 @@ returns-clause-few c =
     let pushed = ap length c.push_reserved.ensures.items in
     let last : Addressed = record { slot = c.args.s; handle = c.in-Some.handle } in
     omega (arith, one, pushed, length-append c.args.noted.now.items (last ∷ []))
+
+pub push_reserved-requires : goal.push_reserved-requires
+push_reserved-requires c =
+    let one =
+    part_counted c.args.store.now c.args.s c.in-Some.handle
+    (telegram_model c.args.awaited.now.telegram.now)
+    (c.args.awaited.now.session, c.args.awaited.now.role) c.requires.part c.in-Some.ensures.found in
+    omega (arith, one, c.requires.capacity)

@@ -8,6 +8,23 @@ use Rattle.trdp_datagrams.proofs.NoteLemmas.Noted.{notes_all_next, notes_all_end
 use Rattle.trdp_datagrams.proofs.NoteLemmas.Noted.{notes_all_end_room}
 use Rattle.trdp_datagrams.proofs.addressees.note_parts.Goals as goal
 
+pub note_part-own-requires-clause-capacity : goal.note_part-own-requires-clause-capacity
+note_part-own-requires-clause-capacity c =
+    let there : c.loop-s.s < length c.args.store.now =
+    omega (arith, c.loop-s-test.true, c.slots-s-end.ensures.count) in
+    let lt : c.loop-s.s < length (slots_of c.args.store.now) =
+    omega (arith, there, slots_length c.args.store.now) in
+    let left = meant_of-drop (telegram_model c.args.awaited.now.telegram.now)
+    (slots_of c.args.store.now) (slot_at c.loop-s.s c.args.store.now)
+    c.loop-s.s lt (slot_there c.args.store.now c.loop-s.s there) in
+    omega (
+      arith,
+      left,
+      c.loop-s.invariant.few,
+      c.loop-s.invariant.capacity,
+      c.requires.capacity,
+    )
+
 pub loop-s-preserved : goal.loop-s-preserved
 loop-s-preserved c =
     let there : c.loop-s.s < length c.args.store.now =

@@ -108,3 +108,14 @@ pub returns-clause-tests : goal.returns-clause-tests
 returns-clause-tests c =
     rw (← c.run-rows.ensures.rows)
     (omega (arith, c.compared.ensures.tests, c.loop-row.invariant.tests))
+
+pub push_reserved-requires : goal.push_reserved-requires
+push_reserved-requires c =
+    let room = rw (← c.run-rows.ensures.rows) at c.requires.capacity in
+    omega (
+      arith,
+      room,
+      c.loop-row.invariant.length,
+      c.loop-row.invariant.capacity,
+      c.loop-row-test.true,
+    )

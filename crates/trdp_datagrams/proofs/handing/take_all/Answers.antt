@@ -126,3 +126,6 @@ returns-clause-appends c =
     reached_appends (λ slot. handed (setup_of c.args.setting.now.config.now) slot
     c.args.setting.now.globals.now (telegram_model c.args.telegram.now)) (slots_of c.args.store.now)
     c.args.out.now.records c.loop-addressee.out.records end.1
+
+pub returns-clause-room : goal.returns-clause-room
+returns-clause-room c = c.loop-addressee.invariant.room_is

@@ -106,3 +106,6 @@ returns-clause-appends c =
     c.loop-listener-test.false c.loop-listener.invariant.goes in
     reached_appends (λ slot. requested slot c.args.globals.now (telegram_model c.args.telegram.now))
     (slots_of c.args.store.now) c.args.out.now.records c.loop-listener.out.records end.1
+
+pub returns-clause-room : goal.returns-clause-room
+returns-clause-room c = c.loop-listener.invariant.room_is

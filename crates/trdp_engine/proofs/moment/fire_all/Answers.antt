@@ -100,3 +100,6 @@ returns-clause-parts c =
     rw c.in_default.ensures.kept
     (moment_ends c.args.globals.now c.args.store.now c.loop-next.store c.args.out.now.records
     c.loop-next.out c.loop-next.invariant.moving c.in_default.ensures.next)
+
+pub returns-clause-room : goal.returns-clause-room
+returns-clause-room c = rw c.in_default.ensures.kept c.loop-next.invariant.counting.room_is

@@ -4,7 +4,10 @@ use Rattle.trdp_model.specs.Configs.{setup_of}
 use Rattle.trdp_store.specs.TableSlots.{slots_of}
 use Rattle.trdp_model.specs.Values.{valued, valued_at}
 use Rattle.trdp_model.proofs.FitEventLemmas.{valued_at_fits}
+use Rattle.trdp_store.specs.Acting.{slot_at}
 use Rattle.trdp_engine.proofs.ActLemmas.OneSlot.{became_parts, became_appends, became_count}
+use Rattle.trdp_engine.proofs.ActLemmas.OneSlot.{became_room}
+use Rattle.trdp_engine.proofs.ActLemmas.Quotas.{valued_quotas}
 use Rattle.trdp_model.proofs.StepLemmas.{outcomes_fit}
 use Rattle.trdp_engine.proofs.node.Node.put_value.Goals as goal
 
@@ -37,4 +40,8 @@ invariant_of-self-2 c =
     (model_of c.args.item.now)) (slots_of c.self.inside.store) (slots_of c.put_value.new.store)
     _ _ count parts (λ r slot fit. valued_at_fits (setup_of c.self.inside.config)
     c.args.slot r slot c.args.handle (model_of c.args.item.now) fit) c.self.invariant.2 in
-    (c.self.invariant.0, c.self.invariant.1, fits, c.self.invariant.3)
+    let room = became_room c.args.slot _ c.self.inside.store c.put_value.new.store
+    c.args.out.now c.put_value.new.out there
+    (valued_quotas (setup_of c.self.inside.config) (slot_at c.args.slot c.self.inside.store)
+    c.args.handle (model_of c.args.item.now)) c.in_ok-put_value.ensures.becomes in
+    (c.self.invariant.0, c.self.invariant.1, fits, rw room c.self.invariant.3)

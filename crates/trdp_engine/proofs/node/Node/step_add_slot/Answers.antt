@@ -1,6 +1,7 @@
 use Rattle.std.proofs.Common.{rules, arith}
 use Rattle.std.proofs.lemmas.Grind.{common_steps}
 use Rattle.trdp_model.proofs.AddedSlotLemmas.{opening_fits}
+use Rattle.trdp_store.proofs.StoreLemmas.Opened.{room_grows}
 use Rattle.trdp_store.proofs.StoreLemmas.OpenedSlots.{slots_opened}
 use Rattle.trdp_engine.proofs.node.Node.step_add_slot.Goals as goal
 
@@ -10,7 +11,14 @@ invariant_of-self-2 c = (
   c.self.invariant.1,
   rw (c.in_ok-slot.ensures.opened, slots_opened c.self.inside.store c.args.quotas)
       (opening_fits _ _ c.args.quotas c.self.invariant.2),
-  c.self.invariant.3,
+  rw c.in_ok-slot.ensures.opened (omega (
+    arith,
+    room_grows c.self.inside.store c.args.quotas,
+    c.room.ensures.room,
+    c.room_of.ensures.room,
+    c.clear.ensures.len,
+    c.in_ok-reserve_exact.ensures.ok,
+  )),
 )
 
 pub push_plain_answer-requires : goal.push_plain_answer-requires
@@ -24,3 +32,29 @@ returns-clause-told c = grind (arith, common_steps)
 
 pub returns-then-slots-ge-SLOTS_MAX-clause-fault : goal.returns-then-slots-ge-SLOTS_MAX-clause-fault
 returns-then-slots-ge-SLOTS_MAX-clause-fault c = grind (arith, common_steps)
+
+pub invariant_of-self : goal.invariant_of-self
+invariant_of-self c = (
+  c.self.invariant.0,
+  c.self.invariant.1,
+  c.self.invariant.2,
+  omega (
+    arith,
+    c.self.invariant.3,
+    c.clear.ensures.capacity,
+    c.in_err-reserve_exact.ensures.err,
+  ),
+)
+
+pub invariant_of-self-in_err-slot : goal.invariant_of-self-in_err-slot
+invariant_of-self-in_err-slot c = (
+  c.self.invariant.0,
+  c.self.invariant.1,
+  rw c.in_err-slot.ensures.kept c.self.invariant.2,
+  rw c.in_err-slot.ensures.kept (omega (
+    arith,
+    c.self.invariant.3,
+    c.clear.ensures.capacity,
+    c.reserve_exact.ensures.capacity,
+  )),
+)

@@ -210,7 +210,7 @@ invariant_of-self-2 c =
             c.self.invariant.0,
             c.self.invariant.1,
             kept,
-            rw w.note_all-room.ensures.capacity c.self.invariant.3,
+            rw (w.note_all-room.ensures.capacity, w.ask_all.ensures.room) c.self.invariant.3,
           )
       | in-Some+in_ok-reserve+in_default-telegram-2 w ↦
           let kept = rw w.self-inside-is at fits in
@@ -218,7 +218,7 @@ invariant_of-self-2 c =
             c.self.invariant.0,
             c.self.invariant.1,
             kept,
-            rw w.note_all-room.ensures.capacity c.self.invariant.3,
+            rw (w.note_all-room.ensures.capacity, w.take_all.ensures.room) c.self.invariant.3,
           )
       | in_default-telegram w ↦ rw w.self-inside-is c.self.invariant
     ]

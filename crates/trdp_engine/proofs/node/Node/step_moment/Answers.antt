@@ -43,7 +43,7 @@ invariant_of-self c = (
   c.self.invariant.0,
   c.self.invariant.1,
   rw c.due_room-comparisons.ensures.kept c.self.invariant.2,
-  c.self.invariant.3,
+  rw c.due_room-comparisons.ensures.kept c.self.invariant.3,
 )
 
 pub invariant_of-self-2 : goal.invariant_of-self-2
@@ -56,7 +56,8 @@ invariant_of-self-2 c =
     (λ s slot. moved_to slot globals) (slots_of c.self.inside.store)
     (slots_of c.fire_all.new.store) _ _ count parts (λ s slot fit. moved_fits
     (setup_of c.self.inside.config) slot globals c.self.invariant.1 fit) c.self.invariant.2 in
-    (c.if-t-gt-MOMENT_MAX.false, c.self.invariant.1, fits, c.self.invariant.3)
+    let room = rw c.due_room-comparisons.ensures.kept at c.fire_all.ensures.room in
+    (c.if-t-gt-MOMENT_MAX.false, c.self.invariant.1, fits, rw room c.self.invariant.3)
 
 pub returns-clause-cost : goal.returns-clause-cost
 returns-clause-cost c = λ b lt.
