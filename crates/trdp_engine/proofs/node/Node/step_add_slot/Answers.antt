@@ -32,29 +32,3 @@ returns-clause-told c = grind (arith, common_steps)
 
 pub returns-then-slots-ge-SLOTS_MAX-clause-fault : goal.returns-then-slots-ge-SLOTS_MAX-clause-fault
 returns-then-slots-ge-SLOTS_MAX-clause-fault c = grind (arith, common_steps)
-
-pub invariant_of-self : goal.invariant_of-self
-invariant_of-self c = (
-  c.self.invariant.0,
-  c.self.invariant.1,
-  c.self.invariant.2,
-  omega (
-    arith,
-    c.self.invariant.3,
-    c.clear.ensures.capacity,
-    c.in_err-reserve_exact.ensures.err,
-  ),
-)
-
-pub invariant_of-self-in_err-slot : goal.invariant_of-self-in_err-slot
-invariant_of-self-in_err-slot c = (
-  c.self.invariant.0,
-  c.self.invariant.1,
-  rw c.in_err-slot.ensures.kept c.self.invariant.2,
-  rw c.in_err-slot.ensures.kept (omega (
-    arith,
-    c.self.invariant.3,
-    c.clear.ensures.capacity,
-    c.reserve_exact.ensures.capacity,
-  )),
-)
