@@ -6,8 +6,9 @@
 //!   a buffer that is used from line to line.
 //! - [`read_operator`] reads a line of the operator, which carries no bytes: an event or a
 //!   [`Question`].
-//! - [`print_record`] appends the line of a record, and [`print_fault`] the line of an event's
-//!   fault. [`ConfigFaultText`] is the line of a fault of the configuration.
+//! - [`print_record`] appends the line of a record, [`print_records`] the lines of an outbox, slot by
+//!   slot, and [`print_fault`] the line of an event's fault. [`ConfigFaultText`] is the line of a
+//!   fault of the configuration.
 //!
 //! ```text
 //! call 0 publish 100 0 100000 0 0 0 10.0.0.2:17224    answers  0 handle 1
@@ -36,6 +37,7 @@ mod operator_line;
 mod owned_line;
 mod port;
 mod print;
+mod print_all;
 mod print_message;
 mod print_words;
 mod read;
@@ -48,9 +50,10 @@ pub use config_names::ConfigFaultText;
 pub use fault::LineFault;
 pub use line::{LINE_MAX, read_event};
 pub use line_end::without_return;
-pub use names::line_fault_name;
+pub use names::{fault_name, line_fault_name, reason_name, refusal_name};
 pub use operator_line::{OperatorLine, Question};
 pub use owned_line::{Line, read_control, read_line};
 pub use port::{read_control_event, read_operator};
 pub use print::{print_fault, print_record};
+pub use print_all::print_records;
 pub use split::split_at_byte;

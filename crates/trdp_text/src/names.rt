@@ -11,7 +11,7 @@ use trdp_model::{NodeFault, Refusal};
 use trdp_pd::{Reason, ValueState};
 
 /// The word for a node's fault.
-pub(crate) fn fault_name(fault: NodeFault) -> &'static [u8]
+pub fn fault_name(fault: NodeFault) -> &'static [u8]
     ensures word { result.now ≡ name_of_fault fault }
     ensures length { length result.now ≤ 11 }
 {
@@ -26,7 +26,7 @@ pub(crate) fn fault_name(fault: NodeFault) -> &'static [u8]
 }
 
 /// The word for a refusal.
-pub(crate) fn refusal_name(refusal: Refusal) -> &'static [u8]
+pub fn refusal_name(refusal: Refusal) -> &'static [u8]
     ensures word { result.now ≡ name_of_refusal refusal }
     ensures length { length result.now ≤ 11 }
 {
@@ -62,7 +62,7 @@ pub(crate) fn state_name(state: ValueState) -> &'static [u8]
 }
 
 /// The word for why a request or an answer is over.
-pub(crate) fn reason_name(reason: Reason) -> &'static [u8]
+pub fn reason_name(reason: Reason) -> &'static [u8]
     ensures word { result.now ≡ name_of_reason reason }
     ensures length { length result.now ≤ 13 }
 {

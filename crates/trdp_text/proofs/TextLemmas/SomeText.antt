@@ -1,5 +1,5 @@
 -- What has some text.
--- For `play` and `push_records`, which may need memory for it.
+-- For `play` and `print_records`, which may need memory for it.
 -- By: a record's line ends with a newline, and a fault's begins with a word.
 use Rattle.std.proofs.Common.{◌≡◌, List, ℕ, [], ◌∷◌, ◌++◌, refl, sym, ◌∙◌, ap, codes}
 use Rattle.std.proofs.Common.{append_assoc, append-nil}

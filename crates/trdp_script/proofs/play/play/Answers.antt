@@ -8,7 +8,7 @@ use Rattle.trdp_script.proofs.play.play.Goals as goal
 
 pub returns-in-Ok-clause-node : goal.returns-in-Ok-clause-node
 returns-in-Ok-clause-node c =
-    all_ok c.push_records.result
+    all_ok c.print_records.result
     (node_played (uncounted c.args.node.now) (uncounted c.step.new.self) _ _ _ c.in-Ok.ensures.fault
     c.step.ensures.config c.in-Ok.ensures.globals c.in-Ok.ensures.steps)
 
@@ -16,15 +16,15 @@ pub returns-in-Ok-clause-text : goal.returns-in-Ok-clause-text
 returns-in-Ok-clause-text c =
     let played = text_played (uncounted c.args.node.now) (uncounted c.step.new.self) _ _ _
     c.in-Ok.ensures.fault c.clear.ensures.records c.in-Ok.ensures.steps in
-    on_ok c.push_records.result (λ told. told
-    ∙ ap (λ l. c.args.text.now.items ++ l) played) c.push_records.ensures.ok
+    on_ok c.print_records.result (λ told. told
+    ∙ ap (λ l. c.args.text.now.items ++ l) played) c.print_records.ensures.ok
 
 pub returns-in-Ok-clause-wanting : goal.returns-in-Ok-clause-wanting
 returns-in-Ok-clause-wanting c =
     let played = text_played (uncounted c.args.node.now) (uncounted c.step.new.self) _ _ _
     c.in-Ok.ensures.fault c.clear.ensures.records c.in-Ok.ensures.steps in
-    on_err c.push_records.result (λ some. inr (λ none. some (played ∙ none)))
-    c.push_records.ensures.some
+    on_err c.print_records.result (λ some. inr (λ none. some (played ∙ none)))
+    c.print_records.ensures.some
 
 pub returns-in-Err-clause-wanting : goal.returns-in-Err-clause-wanting
 returns-in-Err-clause-wanting c =

@@ -4,7 +4,7 @@ use Rattle.trdp_model.specs.Records.{record_model}
 use Rattle.trdp_outbox.proofs.SlotOrderLemmas.Walk.{walked_all, walked_one}
 use Rattle.trdp_text.specs.RecordText.{text_of_record}
 use Rattle.trdp_text.proofs.TextLemmas.SomeText.{one_told, some_told}
-use Rattle.trdp_script.proofs.play.push_records.Goals as goal
+use Rattle.trdp_text.proofs.print_all.print_records.Goals as goal
 
 pub loop-record-init : goal.loop-record-init
 loop-record-init c = record {

@@ -3,7 +3,7 @@ use Rattle.std.specs.List.{flat_map}
 use Rattle.trdp_model.specs.Records.{RecordModel}
 use Rattle.trdp_outbox.specs.SlotOrder.{by_slot}
 use Rattle.trdp_text.specs.RecordText.{text_of_record}
-use Rattle.trdp_script.proofs.play.push_records.Given as goal
+use Rattle.trdp_text.proofs.print_all.print_records.Given as goal
 
 -- the text of the records that came, followed by that of the others
 abbrev pub invariant-loop-record : goal.invariant-loop-record
