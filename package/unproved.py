@@ -47,6 +47,14 @@ class NoProgram(Exception):
     """Why nothing was compiled."""
 
 
+def find_kit() -> pathlib.Path:
+    """The folder of the kit."""
+    found = shutil.which(os.environ.get("RT") or "rt")
+    if found is None:
+        raise NoProgram("the Rattle kit's command rt must be on PATH, or its path in RT")
+    return pathlib.Path(found).resolve().parent.parent
+
+
 def link_all(source: pathlib.Path, target: pathlib.Path, *but: str) -> None:
     """Makes a folder of links to what is in another one, except for these names."""
     target.mkdir()
@@ -92,11 +100,8 @@ def copy_tree(copy: pathlib.Path) -> pathlib.Path:
 
 def build(target: pathlib.Path, scratch: pathlib.Path) -> None:
     """Compiles the program into that file."""
-    found = shutil.which(os.environ.get("RT") or "rt")
-    if found is None:
-        raise NoProgram("the Rattle kit's command rt must be on PATH, or its path in RT")
     kept = scratch / "program"
-    make_kit(pathlib.Path(found).resolve().parent.parent, scratch / "kit", kept)
+    make_kit(find_kit(), scratch / "kit", kept)
     (scratch / "tree").mkdir()
     crate = copy_tree(scratch / "tree")
     words = [str(scratch / "kit/bin/rt"), "try", "--", "--version"]

@@ -60,7 +60,7 @@ def tracked() -> list[str]:
 def crate_lines() -> dict[str, list[str]]:
     """Each crate with those that it stands on, in the order of crates.txt."""
     lines = [line.split(":") for line in (TOP / "crates.txt").read_text().splitlines() if ":" in line]
-    return {name: below.split() for name, below in lines}
+    return {name.split()[0]: below.split() for name, below in lines}
 
 
 def opened(line: str) -> tuple[str, str, str]:

@@ -63,7 +63,7 @@ class Trace:
         self.rules, self._page_faults = trace_pages.rules(top)
         self.above = functools.cache(self.specs.above)
         lines = (top / "crates.txt").read_text().splitlines()
-        self.crates = [line.split(":")[0] for line in lines if ":" in line]
+        self.crates = [line.split(":")[0].split()[0] for line in lines if ":" in line]
         self._holders: dict[str, list[Holder]] = {}
 
     def definitions(self, rule: Rule) -> list[Definition]:

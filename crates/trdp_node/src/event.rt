@@ -1,5 +1,13 @@
 //! An event in numbers, as C hands it in.
 
+ghost use Rattle.std.specs.Prelude.{◌≡◌};
+ghost use Rattle.trdp_model.specs.Events.{call_model, event_model, NotifyCall, RequestCall};
+ghost use Rattle.trdp_model.specs.Events.{ReplyCall, QueryCall, ReplyErrorCall, ConfirmCall};
+ghost use Rattle.trdp_node.specs.EventOf.{call_of, call_read, caller_of, datagram_of, event_of};
+ghost use Rattle.trdp_node.specs.EventOf.{event_read, flag_of, listener_of, notice_of};
+ghost use Rattle.trdp_node.specs.EventOf.{publisher_of, requester_of, subscription_of, to_of};
+ghost use Rattle.trdp_node.specs.EventOf.{topo_of};
+
 use crate::event_numbers::{
     MOMENT, TOPOLOGY, ROLE, PD, MD, ADD_SLOT, PUBLISH, PUT, UNPUBLISH, SUBSCRIBE, GET, UNSUBSCRIBE, OPEN_PULL, PULL, CLOSE_PULL, LISTEN, UNLISTEN, NOTIFY, REQUEST, REPLY, QUERY, REPLY_ERROR, CONFIRM, ABORT, RESET,
 };
@@ -79,7 +87,10 @@ impl EventNumbers {
     ///
     /// # Errors
     /// The status: `NO_EVENT` where `what` is none, `BAD_FLAG`, `BAD_QUOTA`.
-    pub fn read<'a>(&self, bytes: &'a [u8]) -> Result<Event<'a>, u32> {
+    #[tactic(auto, unfolding(crate::specs::EventOf::event_of, crate::specs::EventOf::datagram_of, crate::specs::EventOf::slot_of))]
+    pub fn read<'a>(&self, bytes: &'a [u8]) -> Result<Event<'a>, u32>
+        ensures { event_read result ≡ event_of self.now bytes.now }
+    {
         match self.what {
             MOMENT => Ok(Event::Moment(self.moment)),
             TOPOLOGY => Ok(Event::Topology(self.topo())),
@@ -93,17 +104,23 @@ impl EventNumbers {
                 Some(quotas) => Ok(Event::AddSlot(quotas)),
                 None => Err(BAD_QUOTA),
             },
-            _ => Ok(Event::Call {
-                slot: self.slot,
-                call: self.call(bytes)?,
-            }),
+            _ => match self.call(bytes) {
+                Ok(call) => Ok(Event::Call {
+                    slot: self.slot,
+                    call,
+                }),
+                Err(status) => Err(status),
+            },
         }
     }
 
     /// A datagram at the protocol's port.
-    fn datagram<'a>(&self, kind: Protocol, bytes: &'a [u8]) -> Event<'a> {
+    #[tactic(auto, unfolding(crate::specs::EventOf::datagram_of))]
+    fn datagram<'a>(&self, protocol: Protocol, bytes: &'a [u8]) -> Event<'a>
+        ensures { event_model result ≡ datagram_of protocol self.now bytes.now }
+    {
         Event::Datagram {
-            kind,
+            kind: protocol,
             src: Place {
                 ip: Ip(self.from_address),
                 port: self.from_port,
@@ -117,83 +134,124 @@ impl EventNumbers {
     ///
     /// # Errors
     /// `NO_EVENT`, `BAD_FLAG`.
-    fn call<'a>(&self, bytes: &'a [u8]) -> Result<Call<'a>, u32> {
+    #[tactic(auto, unfolding(crate::specs::EventOf::call_of))]
+    fn call<'a>(&self, bytes: &'a [u8]) -> Result<Call<'a>, u32>
+        ensures { call_read result ≡ call_of self.now bytes.now }
+    {
         let handle = self.handle;
         match self.what {
             PUBLISH => Ok(Call::Publish(self.publisher())),
             PUT => Ok(Call::Put { handle, bytes }),
             UNPUBLISH => Ok(Call::Unpublish { handle }),
-            SUBSCRIBE => Ok(Call::Subscribe(self.subscription()?)),
+            SUBSCRIBE => Ok(Call::Subscribe(self.subscription(read_flag(self.keep)?))),
             GET => Ok(Call::Get { handle }),
             UNSUBSCRIBE => Ok(Call::Unsubscribe { handle }),
             OPEN_PULL => Ok(Call::OpenPull(self.requester())),
             PULL => Ok(Call::Pull { handle }),
             CLOSE_PULL => Ok(Call::ClosePull { handle }),
-            RESET => Ok(Call::Reset),
-            _ => self.message_call(bytes),
-        }
-    }
-
-    /// The call of message data that these numbers mean.
-    ///
-    /// # Errors
-    /// `NO_EVENT`, `BAD_FLAG`.
-    fn message_call<'a>(&self, payload: &'a [u8]) -> Result<Call<'a>, u32> {
-        let handle = self.handle;
-        match self.what {
-            LISTEN => Ok(Call::Listen(self.listener()?)),
+            LISTEN => Ok(Call::Listen(self.listener(read_flag(self.any)?))),
             UNLISTEN => Ok(Call::Unlisten { handle }),
-            NOTIFY => Ok(Call::Notify {
-                terms: self.notice(),
-                payload,
-            }),
-            REQUEST => Ok(Call::Request {
-                terms: self.caller(),
-                payload,
-            }),
+            NOTIFY => Ok(self.notify(bytes)),
+            REQUEST => Ok(self.request(bytes)),
+            REPLY => Ok(self.reply(bytes)),
+            QUERY => Ok(self.query(bytes)),
+            REPLY_ERROR => Ok(self.reply_error()),
+            CONFIRM => Ok(self.confirm()),
             ABORT => Ok(Call::Abort { handle }),
-            _ => self.reply_call(payload),
-        }
-    }
-
-    /// The call of a replier, or the confirmation of a caller, that these numbers mean.
-    ///
-    /// # Errors
-    /// `NO_EVENT`.
-    fn reply_call<'a>(&self, payload: &'a [u8]) -> Result<Call<'a>, u32> {
-        let handle = self.handle;
-        let com_id = self.com_id;
-        let status = self.status;
-        match self.what {
-            REPLY => Ok(Call::Reply {
-                handle,
-                com_id,
-                status,
-                payload,
-            }),
-            QUERY => Ok(Call::Query {
-                handle,
-                com_id,
-                status,
-                timeout: self.time,
-                payload,
-            }),
-            REPLY_ERROR => Ok(Call::ReplyError {
-                handle,
-                com_id,
-                status,
-            }),
-            CONFIRM => Ok(Call::Confirm {
-                handle,
-                place: self.to(),
-                status,
-            }),
+            RESET => Ok(Call::Reset),
             _ => Err(NO_EVENT),
         }
     }
 
+    /// The call that sends a notification.
+    #[tactic(auto, unfolding(crate::specs::EventOf::notice_of))]
+    fn notify<'a>(&self, payload: &'a [u8]) -> Call<'a>
+        ensures { call_model result ≡ NotifyCall (notice_of self.now) payload.now }
+    {
+        let terms = NotifyTerms {
+            com_id: self.com_id,
+            topo: self.topo(),
+            to: self.to(),
+            source_uri: Uri::from_field(&self.source_uri),
+            dest_uri: Uri::from_field(&self.destination_uri),
+        };
+        Call::Notify { terms, payload }
+    }
+
+    /// The call that sends a request.
+    #[tactic(auto, unfolding(crate::specs::EventOf::caller_of))]
+    fn request<'a>(&self, payload: &'a [u8]) -> Call<'a>
+        ensures { call_model result ≡ RequestCall (caller_of self.now) payload.now }
+    {
+        let terms = CallerTerms {
+            com_id: self.com_id,
+            session: SessionId(BigEndian::read_u128(&self.session)),
+            expected: self.expected,
+            timeout: self.time,
+            retries: self.retries,
+            topo: self.topo(),
+            to: self.to(),
+            source_uri: Uri::from_field(&self.source_uri),
+            dest_uri: Uri::from_field(&self.destination_uri),
+        };
+        Call::Request { terms, payload }
+    }
+
+    /// The call that replies.
+    fn reply<'a>(&self, payload: &'a [u8]) -> Call<'a>
+        ensures { call_model result
+            ≡ ReplyCall self.now.handle self.now.com_id self.now.status payload.now }
+    {
+        Call::Reply {
+            handle: self.handle,
+            com_id: self.com_id,
+            status: self.status,
+            payload,
+        }
+    }
+
+    /// The call that replies, and awaits a confirmation.
+    fn query<'a>(&self, payload: &'a [u8]) -> Call<'a>
+        ensures { call_model result ≡ QueryCall self.now.handle self.now.com_id self.now.status
+            self.now.time payload.now }
+    {
+        Call::Query {
+            handle: self.handle,
+            com_id: self.com_id,
+            status: self.status,
+            timeout: self.time,
+            payload,
+        }
+    }
+
+    /// The call that replies with an error.
+    fn reply_error<'a>(&self) -> Call<'a>
+        ensures { call_model result
+            ≡ ReplyErrorCall self.now.handle self.now.com_id self.now.status }
+    {
+        Call::ReplyError {
+            handle: self.handle,
+            com_id: self.com_id,
+            status: self.status,
+        }
+    }
+
+    /// The call that confirms a query.
+    fn confirm<'a>(&self) -> Call<'a>
+        ensures { call_model result
+            ≡ ConfirmCall self.now.handle (to_of self.now) self.now.status }
+    {
+        Call::Confirm {
+            handle: self.handle,
+            place: self.to(),
+            status: self.status,
+        }
+    }
+
     /// Where a datagram or an object's telegrams go.
-    fn to(&self) -> Place {
+    fn to(&self) -> Place
+        ensures { result ≡ to_of self.now }
+    {
         Place {
             ip: Ip(self.to_address),
             port: self.to_port,
@@ -201,7 +259,9 @@ impl EventNumbers {
     }
 
     /// The topology counters.
-    fn topo(&self) -> Topo {
+    fn topo(&self) -> Topo
+        ensures { result ≡ topo_of self.now }
+    {
         Topo {
             etb: self.etb,
             op_trn: self.op_trn,
@@ -209,7 +269,10 @@ impl EventNumbers {
     }
 
     /// What a publisher is made from.
-    fn publisher(&self) -> PublisherTerms {
+    #[tactic(auto, unfolding(crate::specs::EventOf::publisher_of))]
+    fn publisher(&self) -> PublisherTerms
+        ensures { result ≡ publisher_of self.now }
+    {
         PublisherTerms {
             com_id: self.com_id,
             dataset: self.dataset,
@@ -220,13 +283,12 @@ impl EventNumbers {
         }
     }
 
-    /// What a subscription is made from.
-    ///
-    /// # Errors
-    /// `BAD_FLAG`.
-    fn subscription(&self) -> Result<SubscriptionTerms, u32> {
-        let keep = read_flag(self.keep)?;
-        Ok(SubscriptionTerms {
+    /// What a subscription is made from, which keeps its value or not.
+    #[tactic(auto, unfolding(crate::specs::EventOf::subscription_of))]
+    fn subscription(&self, keep: bool) -> SubscriptionTerms
+        ensures { result ≡ subscription_of self.now keep }
+    {
+        SubscriptionTerms {
             filter: PdFilter {
                 com_id: self.com_id,
                 low: Ip(self.low),
@@ -241,11 +303,14 @@ impl EventNumbers {
             } else {
                 Behaviour::Zero
             },
-        })
+        }
     }
 
     /// What a requester is made from.
-    fn requester(&self) -> RequesterTerms {
+    #[tactic(auto, unfolding(crate::specs::EventOf::requester_of))]
+    fn requester(&self) -> RequesterTerms
+        ensures { result ≡ requester_of self.now }
+    {
         RequesterTerms {
             com_id: self.com_id,
             reply_com_id: self.reply_com_id,
@@ -255,45 +320,18 @@ impl EventNumbers {
         }
     }
 
-    /// Which messages a listener hears.
-    ///
-    /// # Errors
-    /// `BAD_FLAG`.
-    fn listener(&self) -> Result<MdFilter, u32> {
-        let any = read_flag(self.any)?;
-        Ok(MdFilter {
+    /// Which messages a listener hears: of any comId or not.
+    #[tactic(auto, unfolding(crate::specs::EventOf::listener_of))]
+    fn listener(&self, any: bool) -> MdFilter
+        ensures { result ≡ listener_of self.now any }
+    {
+        MdFilter {
             com_id: if any { None } else { Some(self.com_id) },
             low: Ip(self.low),
             high: Ip(self.high),
             dest: Ip(self.destination),
             uri: Uri::from_field(&self.destination_uri),
             topo: self.topo(),
-        })
-    }
-
-    /// With which header a notification is sent.
-    fn notice(&self) -> NotifyTerms {
-        NotifyTerms {
-            com_id: self.com_id,
-            topo: self.topo(),
-            to: self.to(),
-            source_uri: Uri::from_field(&self.source_uri),
-            dest_uri: Uri::from_field(&self.destination_uri),
-        }
-    }
-
-    /// What a caller is made from.
-    fn caller(&self) -> CallerTerms {
-        CallerTerms {
-            com_id: self.com_id,
-            session: SessionId(BigEndian::read_u128(&self.session)),
-            expected: self.expected,
-            timeout: self.time,
-            retries: self.retries,
-            topo: self.topo(),
-            to: self.to(),
-            source_uri: Uri::from_field(&self.source_uri),
-            dest_uri: Uri::from_field(&self.destination_uri),
         }
     }
 }
@@ -302,7 +340,10 @@ impl EventNumbers {
 ///
 /// # Errors
 /// `BAD_FLAG` where it is neither 0 nor 1.
-fn read_flag(flag: u8) -> Result<bool, u32> {
+#[tactic(auto, unfolding(crate::specs::EventOf::flag_of))]
+fn read_flag(flag: u8) -> Result<bool, u32>
+    ensures { result ≡ flag_of flag }
+{
     match flag {
         0 => Ok(false),
         1 => Ok(true),

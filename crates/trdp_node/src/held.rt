@@ -1,12 +1,20 @@
 //! A node with the lists that it uses from event to event.
 
+ghost use Rattle.std.specs.Prelude.{◌≡◌, [], IfOk, IfErr, option_map, slice_get};
+ghost use Rattle.trdp_model.specs.Events.{event_model};
+ghost use Rattle.trdp_model.specs.Records.{record_model};
+ghost use Rattle.trdp_outbox.specs.SlotOrder.{by_slot};
+ghost use Rattle.trdp_node.specs.Outcomes.{AnswersEvent, Lends, Plays, Prints, Steps};
+ghost use Rattle.trdp_node.specs.Outcomes.{TakesLine, TellsOf, status_of as status_of_answer};
+ghost use Rattle.trdp_node.specs.Openings.{Opens, Refuses};
+ghost use Rattle.trdp_node.specs.RecordOf.{numbers_of};
+
 use crate::event::EventNumbers;
 use crate::numbers::{OK, OUT_OF_MEMORY, TEXT_LOST, fault_number, line_fault_number};
 use crate::record::RecordNumbers;
 use crate::results::{Done, State, Text};
-use crate::start::start_of;
 use std::alloc::Global;
-use trdp_engine::{ConfigFault, Event, Node, NodeConfig, NodeFault, Outbox};
+use trdp_engine::{ConfigFault, Event, Node, NodeConfig, NodeFault, Outbox, Record};
 use trdp_text::{print_fault, print_records, read_event};
 
 /// A node with the lists that it uses from event to event.
@@ -27,7 +35,10 @@ impl Held {
     ///
     /// # Errors
     /// The fault of the configuration; `OutOfMemory` also where there is no memory for the node.
-    pub fn open(alloc: Global, config: &[u8]) -> Result<Box<Held, Global>, ConfigFault> {
+    pub fn open(alloc: Global, config: &[u8]) -> Result<Box<Held, Global>, ConfigFault>
+        ensures opened { IfOk result (λ held. Opens config.now held.value) }
+        ensures refused { IfErr result (λ fault. Refuses config.now fault) }
+    {
         let config = NodeConfig::from_toml(alloc, config)?;
         let node = match Node::new(alloc, config) {
             Ok(node) => node,
@@ -46,61 +57,73 @@ impl Held {
     }
 
     /// Processes the event of these numbers.
-    pub fn step(&mut self, event: &EventNumbers, bytes: &[u8], done: &mut Done) {
+    pub fn step(&mut self, event: &EventNumbers, bytes: &[u8], done: &mut Done)
+        ensures { Steps self.old self.new event.now bytes.now done.new }
+    {
         self.records.clear();
         done.status = match event.read(bytes) {
-            Ok(event) => status_of(self.node.step(&event, &mut self.records)),
+            Ok(event) => status_of(process(&mut self.node, &event, &mut self.records)),
             Err(status) => status,
         };
         done.records = self.records.len();
     }
 
     /// Writes the record of that index, slot by slot.
-    pub fn record(&self, index: usize, numbers: &mut RecordNumbers) {
-        numbers.clear();
-        let mut left = index;
-        for record in self.records.by_slot() {
-            if left == 0 {
-                numbers.put(&record);
-                return;
-            }
-            left -= 1;
+    pub fn record(&self, index: usize, numbers: &mut RecordNumbers)
+        ensures { numbers.new ≡ numbers_of numbers.new.bytes
+            (slice_get (by_slot self.now.records.records) index) }
+    {
+        match nth(&self.records, index) {
+            Some(record) => numbers.put(&record),
+            None => numbers.clear(),
         }
     }
 
     /// Processes the event of a line.
-    pub fn line(&mut self, line: &[u8], text: &mut Text) {
+    pub fn line(&mut self, line: &[u8], text: &mut Text)
+        ensures { TakesLine self.old self.new line.now text.new }
+    {
         self.text.clear();
         self.records.clear();
         text.status = match read_event(&mut self.bytes, line) {
             Ok(None) => OK,
-            Ok(Some(event)) => {
-                play(&mut self.node, &event, &mut self.records, &mut self.text)
-            }
+            Ok(Some(event)) => play(
+                &mut self.node,
+                &event,
+                &mut self.records,
+                &mut self.text,
+            ),
             Err(fault) => line_fault_number(fault),
         };
-        self.tell(text);
+        self.lend(text);
     }
 
     /// Prints the records of the latest event.
-    pub fn print(&mut self, text: &mut Text) {
+    pub fn print(&mut self, text: &mut Text)
+        ensures { Prints self.old self.new text.new }
+    {
         self.text.clear();
         text.status = match print_records(&mut self.text, &self.records) {
             Ok(()) => OK,
             Err(_) => TEXT_LOST,
         };
-        self.tell(text);
+        self.lend(text);
     }
 
     /// Tells where the text lies, and how many records there are.
-    fn tell(&self, text: &mut Text) {
-        text.text = start_of(&self.text);
-        text.length = self.text.len();
+    fn lend(&self, text: &mut Text)
+        ensures lends { Lends self.now text.new }
+        ensures status { text.new.status ≡ text.old.status }
+    {
+        text.text = self.text.as_ptr();
+        text.len = self.text.len();
         text.records = self.records.len();
     }
 
     /// Tells of the node.
-    pub fn state(&self, state: &mut State) {
+    pub fn state(&self, state: &mut State)
+        ensures { TellsOf self.now.node state.new }
+    {
         state.now = self.node.now();
         state.next_due = match self.node.next_due() {
             Some(moment) => moment,
@@ -110,9 +133,36 @@ impl Held {
     }
 }
 
-/// Lets the node process an event, and appends its text. Returns the status.
-fn play(node: &mut Node, event: &Event<'_>, records: &mut Outbox, text: &mut Vec<u8>) -> u32 {
-    match node.step(event, records) {
+/// The record of that index, slot by slot; None past the last.
+fn nth(records: &Outbox, index: usize) -> Option<Record<'_>>
+    ensures { option_map record_model result ≡ slice_get (by_slot records.now.records) index }
+{
+    let mut left = index;
+    for record in records.by_slot() {
+        if left == 0 {
+            return Some(record);
+        }
+        left -= 1;
+    }
+    None
+}
+
+/// Lets the node process an event, of which an outbox without records gets them.
+fn process(node: &mut Node, event: &Event<'_>, records: &mut Outbox) -> Result<(), NodeFault>
+    requires { records.old.records ≡ [] }
+    ensures { AnswersEvent node.old node.new records.new.records (event_model event.now) result }
+{
+    node.step(event, records)
+}
+
+/// Lets the node process an event, and prints its text. Returns the status.
+fn play(node: &mut Node, event: &Event<'_>, records: &mut Outbox, text: &mut Vec<u8>) -> u32
+    requires records { records.old.records ≡ [] }
+    requires text { text.old.items ≡ [] }
+    ensures { Plays node.old node.new records.new.records (event_model event.now) text.new.items
+        result }
+{
+    match process(node, event, records) {
         Ok(()) => match print_records(text, records) {
             Ok(()) => OK,
             Err(_) => TEXT_LOST,
@@ -125,9 +175,11 @@ fn play(node: &mut Node, event: &Event<'_>, records: &mut Outbox, text: &mut Vec
     }
 }
 
-/// The status of an event with this result.
-fn status_of(result: Result<(), NodeFault>) -> u32 {
-    match result {
+/// The status of an event with this answer.
+fn status_of(answer: Result<(), NodeFault>) -> u32
+    ensures { result ≡ status_of_answer answer }
+{
+    match answer {
         Ok(()) => OK,
         Err(fault) => fault_number(fault),
     }

@@ -181,7 +181,7 @@ pub fn number_fields(
     number_record(record);
     done.records = 1;
     done.status = 2;
-    text.length = 2;
+    text.len = 2;
     text.records = 3;
     text.status = 4;
     state.now = 1;
@@ -194,7 +194,7 @@ pub fn number_fields(
 
 /// Numbers the fields of a record.
 fn number_record(record: &mut RecordNumbers) {
-    record.length = 2;
+    record.len = 2;
     record.what = 3;
     record.handle = 4;
     record.replier = 5;

@@ -1,11 +1,38 @@
 //! The node for programs in C: a static library without a socket, clock, thread or global.
+//!
+//! `clients/c/trdp_node.h` declares what is here, checks pointers, and says how to call it. A node
+//! lies behind a pointer that [`trdp_node_raw_open`] writes and [`trdp_node_raw_close`] takes back.
+//! Meanwhile C hands in one event at a time, in numbers ([`trdp_node_raw_step`]) or as a line of a
+//! script ([`trdp_node_raw_line`]), and gets its records in numbers ([`trdp_node_raw_record`]) or
+//! as text ([`trdp_node_raw_text`]). Three functions give names, and three tell a test what the
+//! library takes for the layout of the header's structs.
+//!
+//! **Proved**, of each export that takes a node's pointer: whatever C hands in, it is safe, and
+//! afterwards a node lies at the pointer again, of which the contract says what became of it
+//! (`specs/Outcomes`). An event is the one that its numbers mean (`specs/EventOf`), the node is the
+//! one after it, and each slot gets what it would get alone. A line gives the text of the model.
+//! The numbers of a record say that record (`specs/RecordOf`), in the order of the text. The state
+//! changes nothing. An event whose status is `OUT_OF_MEMORY` has changed nothing. With `TEXT_LOST`
+//! the event was processed, and its records are there.
+//!
+//! **Proved**, of the others: which fault the configuration has, in number and text, and that the
+//! names are those of the script.
+//!
+//! **Tested**, in `clients/c`: that the header has the structs and numbers of the library, and that
+//! both ways to hand in an event do what `trdpd run` does.
+//!
+//! **Trusted**: that the pointer that [`trdp_node_raw_open`] writes is that of a node, as the
+//! other exports require it (its contract tells the fault alone); that C hands in such a pointer,
+//! until it closes the node, from one thread at a time; that its other pointers are good, are no
+//! part of the node, and are what their types say; the inline functions of the header; that
+//! `rattle_alloc`, `rattle_realloc` and `rattle_dealloc` are an allocator; and the compiler. That
+//! the address in a record is that of its bytes is said by `put` in `record.rt`, and by no export.
 #![tactic(auto)]
 
 mod event;
 mod event_numbers;
 mod held;
 mod layout;
-mod loose;
 mod names;
 mod numbers;
 mod record;
@@ -13,17 +40,19 @@ mod record_numbers;
 mod results;
 mod start;
 
+ghost use Rattle.std.specs.Prelude.{◌≡◌};
 ghost use Rattle.std.specs.Borrow.{sem};
 ghost use Rattle.std_alloc.specs.Box.Ownership.{box_owns};
 ghost use Rattle.std.specs.contracts.impls.GlobalAllocator.TheImpl.{ghosts};
 ghost use Rattle.trdp_node.specs.contracts.held.Held.{the_row as held_row};
+ghost use Rattle.trdp_node.specs.Openings.{Answers};
+ghost use Rattle.trdp_node.specs.Outcomes.{Prints, Shows, Steps, TakesLine, Tells};
 
 pub use event::EventNumbers;
 pub use record::RecordNumbers;
 pub use results::{Done, Fault, Name, State, Text};
 
 use crate::held::Held;
-use crate::loose::Loose;
 use std::alloc::Global;
 
 /// Opens a node with the configuration of a file in TOML, and writes where it lies; or writes the
@@ -34,7 +63,9 @@ pub extern "C" fn trdp_node_raw_open(
     config: &[u8],
     at: &mut *mut u8,
     fault: &mut Fault,
-) {
+)
+    ensures { Answers config.now fault.new }
+{
     match Held::open(alloc, config) {
         Ok(held) => {
             fault.put_none();
@@ -56,12 +87,12 @@ pub unsafe extern "C" fn trdp_node_raw_close(alloc: Global, at: *mut u8)
     ghost held: { Held }
     requires* { sem 𝓛 (box_owns (ghosts.dealloc_token alloc) held_row at held) }
 {
-    close(Loose { at: at as *mut Held, alloc });
+    close(Box::from_raw(alloc, at as *mut Held));
 }
 
 /// Drops the node.
-fn close(loose: Loose<Held, Global>) {
-    drop(loose.into_box());
+fn close(held: Box<Held, Global>) {
+    drop(held);
 }
 
 /// Lets the node process the event of these numbers, with its bytes.
@@ -76,14 +107,17 @@ pub unsafe extern "C" fn trdp_node_raw_step(
     ghost held: { Held }
     requires* { sem 𝓛 (box_owns (ghosts.dealloc_token alloc) held_row at held) }
     ensures* { ∃ₛ (λ (after : Held). sem 𝓛
-        (box_owns (ghosts.dealloc_token alloc) held_row at after)) }
+        (box_owns (ghosts.dealloc_token alloc) held_row at after)
+        ∗ ⌜ Steps held after event.now bytes.now done.new ⌝) }
 {
     let held = &mut *(at as *mut Held);
     step(held, event, bytes, done);
 }
 
 /// Lets the node process an event.
-fn step(held: &mut Held, event: &EventNumbers, bytes: &[u8], done: &mut Done) {
+fn step(held: &mut Held, event: &EventNumbers, bytes: &[u8], done: &mut Done)
+    ensures { Steps held.old held.new event.now bytes.now done.new }
+{
     held.step(event, bytes, done);
 }
 
@@ -98,14 +132,17 @@ pub unsafe extern "C" fn trdp_node_raw_record(
     ghost held: { Held }
     requires* { sem 𝓛 (box_owns (ghosts.dealloc_token alloc) held_row at held) }
     ensures* { ∃ₛ (λ (after : Held). sem 𝓛
-        (box_owns (ghosts.dealloc_token alloc) held_row at after)) }
+        (box_owns (ghosts.dealloc_token alloc) held_row at after)
+        ∗ ⌜ Shows held after index numbers.new ⌝) }
 {
     let held = &mut *(at as *mut Held);
-    record_at(held, index, numbers);
+    show(held, index, numbers);
 }
 
 /// Writes a record.
-fn record_at(held: &mut Held, index: usize, numbers: &mut RecordNumbers) {
+fn show(held: &mut Held, index: usize, numbers: &mut RecordNumbers)
+    ensures { Shows held.old held.new index numbers.new }
+{
     held.record(index, numbers);
 }
 
@@ -120,14 +157,17 @@ pub unsafe extern "C" fn trdp_node_raw_line(
     ghost held: { Held }
     requires* { sem 𝓛 (box_owns (ghosts.dealloc_token alloc) held_row at held) }
     ensures* { ∃ₛ (λ (after : Held). sem 𝓛
-        (box_owns (ghosts.dealloc_token alloc) held_row at after)) }
+        (box_owns (ghosts.dealloc_token alloc) held_row at after)
+        ∗ ⌜ TakesLine held after line.now text.new ⌝) }
 {
     let held = &mut *(at as *mut Held);
     take_line(held, line, text);
 }
 
 /// Lets the node process the event of a line.
-fn take_line(held: &mut Held, line: &[u8], text: &mut Text) {
+fn take_line(held: &mut Held, line: &[u8], text: &mut Text)
+    ensures { TakesLine held.old held.new line.now text.new }
+{
     held.line(line, text);
 }
 
@@ -137,14 +177,17 @@ pub unsafe extern "C" fn trdp_node_raw_text(alloc: Global, at: *mut u8, text: &m
     ghost held: { Held }
     requires* { sem 𝓛 (box_owns (ghosts.dealloc_token alloc) held_row at held) }
     ensures* { ∃ₛ (λ (after : Held). sem 𝓛
-        (box_owns (ghosts.dealloc_token alloc) held_row at after)) }
+        (box_owns (ghosts.dealloc_token alloc) held_row at after)
+        ∗ ⌜ Prints held after text.new ⌝) }
 {
     let held = &mut *(at as *mut Held);
     print(held, text);
 }
 
 /// Prints the records.
-fn print(held: &mut Held, text: &mut Text) {
+fn print(held: &mut Held, text: &mut Text)
+    ensures { Prints held.old held.new text.new }
+{
     held.print(text);
 }
 
@@ -154,14 +197,17 @@ pub unsafe extern "C" fn trdp_node_raw_state(alloc: Global, at: *mut u8, state: 
     ghost held: { Held }
     requires* { sem 𝓛 (box_owns (ghosts.dealloc_token alloc) held_row at held) }
     ensures* { ∃ₛ (λ (after : Held). sem 𝓛
-        (box_owns (ghosts.dealloc_token alloc) held_row at after)) }
+        (box_owns (ghosts.dealloc_token alloc) held_row at after)
+        ∗ ⌜ Tells held after state.new ⌝) }
 {
     let held = &mut *(at as *mut Held);
     look(held, state);
 }
 
 /// Tells of the node.
-fn look(held: &mut Held, state: &mut State) {
+fn look(held: &mut Held, state: &mut State)
+    ensures { Tells held.old held.new state.new }
+{
     held.state(state);
 }
 

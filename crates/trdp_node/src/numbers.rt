@@ -1,5 +1,9 @@
 //! The numbers of the C header's enums.
 
+ghost use Rattle.std.specs.Prelude.{◌≡◌, IfSome, Some};
+ghost use Rattle.trdp_node.specs.Codes.{message_code, reason_code, refusal_code, value_code};
+ghost use Rattle.trdp_node.specs.Codes.{status_of_fault, status_of_line_fault};
+
 use trdp_engine::{MdKind, NodeFault, Reason, Refusal, ValueState};
 use trdp_text::LineFault;
 
@@ -40,7 +44,9 @@ pub const BAD_POINTER: u32 = 32;
 pub const OWN_BYTES: u32 = 33;
 
 /// The status of an event that the node rejects for this fault.
-pub fn fault_number(fault: NodeFault) -> u32 {
+pub fn fault_number(fault: NodeFault) -> u32
+    ensures { result ≡ status_of_fault fault }
+{
     match fault {
         NodeFault::NoSlot => 1,
         NodeFault::Past => 2,
@@ -52,7 +58,10 @@ pub fn fault_number(fault: NodeFault) -> u32 {
 }
 
 /// The node's fault of that number; None where it is none.
-pub fn fault_of(number: u32) -> Option<NodeFault> {
+pub fn fault_of(number: u32) -> Option<NodeFault>
+    ensures some { IfSome result (λ it. number ≡ status_of_fault it) }
+    ensures found { (it : NodeFault) → number ≡ status_of_fault it → result ≡ Some it }
+{
     match number {
         1 => Some(NodeFault::NoSlot),
         2 => Some(NodeFault::Past),
@@ -65,7 +74,9 @@ pub fn fault_of(number: u32) -> Option<NodeFault> {
 }
 
 /// The status of a line that has this fault.
-pub fn line_fault_number(fault: LineFault) -> u32 {
+pub fn line_fault_number(fault: LineFault) -> u32
+    ensures { result ≡ status_of_line_fault fault }
+{
     match fault {
         LineFault::TooLong => 11,
         LineFault::Unknown => 12,
@@ -76,7 +87,9 @@ pub fn line_fault_number(fault: LineFault) -> u32 {
 }
 
 /// The number of a refusal.
-pub fn refusal_number(refusal: Refusal) -> u32 {
+pub fn refusal_number(refusal: Refusal) -> u32
+    ensures { result ≡ refusal_code refusal }
+{
     match refusal {
         Refusal::NoHandle => 1,
         Refusal::WrongKind => 2,
@@ -97,7 +110,10 @@ pub fn refusal_number(refusal: Refusal) -> u32 {
 }
 
 /// The refusal of that number; None where it is none.
-pub fn refusal_of(number: u32) -> Option<Refusal> {
+pub fn refusal_of(number: u32) -> Option<Refusal>
+    ensures some { IfSome result (λ it. number ≡ refusal_code it) }
+    ensures found { (it : Refusal) → number ≡ refusal_code it → result ≡ Some it }
+{
     match number {
         1 => Some(Refusal::NoHandle),
         2 => Some(Refusal::WrongKind),
@@ -119,7 +135,9 @@ pub fn refusal_of(number: u32) -> Option<Refusal> {
 }
 
 /// The number of a reason.
-pub fn reason_number(reason: Reason) -> u32 {
+pub fn reason_number(reason: Reason) -> u32
+    ensures { result ≡ reason_code reason }
+{
     match reason {
         Reason::Done => 0,
         Reason::NoReply => 1,
@@ -131,7 +149,10 @@ pub fn reason_number(reason: Reason) -> u32 {
 }
 
 /// The reason of that number; None where it is none.
-pub fn reason_of(number: u32) -> Option<Reason> {
+pub fn reason_of(number: u32) -> Option<Reason>
+    ensures some { IfSome result (λ it. number ≡ reason_code it) }
+    ensures found { (it : Reason) → number ≡ reason_code it → result ≡ Some it }
+{
     match number {
         0 => Some(Reason::Done),
         1 => Some(Reason::NoReply),
@@ -144,7 +165,9 @@ pub fn reason_of(number: u32) -> Option<Reason> {
 }
 
 /// The number of how good a value is.
-pub fn value_number(state: ValueState) -> u32 {
+pub fn value_number(state: ValueState) -> u32
+    ensures { result ≡ value_code state }
+{
     match state {
         ValueState::Never => 0,
         ValueState::Valid => 1,
@@ -153,7 +176,9 @@ pub fn value_number(state: ValueState) -> u32 {
 }
 
 /// The number of a message type.
-pub fn message_number(kind: MdKind) -> u32 {
+pub fn message_number(kind: MdKind) -> u32
+    ensures { result ≡ message_code kind }
+{
     match kind {
         MdKind::Notify => 0,
         MdKind::Request => 1,

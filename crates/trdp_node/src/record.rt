@@ -1,16 +1,28 @@
 //! A record in numbers, as C gets it.
 
+ghost use Rattle.std.specs.Prelude.{◌≡◌, Some, None, length};
+ghost use Rattle.byteorder.specs.Endian.{big_bytes};
+ghost use Rattle.trdp_base.specs.Uris.{uri_field};
+ghost use Rattle.trdp_model.specs.Records.{answer_model, content_model, indication_model};
+ghost use Rattle.trdp_model.specs.Records.{message_model, record_model, reply_model};
+ghost use Rattle.trdp_node.specs.Codes.{message_code, reason_code, refusal_code, value_code};
+ghost use Rattle.trdp_node.specs.RecordOf.{no_numbers, numbers_of, with_answer, with_content};
+ghost use Rattle.trdp_node.specs.RecordOf.{with_indication, with_message, with_place, with_reply};
+ghost use Rattle.trdp_node.specs.RecordOf.{sending_code};
+
 use crate::numbers::{message_number, reason_number, refusal_number, value_number};
 use crate::record_numbers::{
-    HANDLE, DONE, VALUE, REFUSED, OPENED, SILENT, ALIVE, NOTIFIED, ASKED, OVERRUN, REPLIED, CONFIRMED, CLOSED, SEND_PD, SEND_MD,
+    ALIVE, ASKED, CLOSED, CONFIRMED, DONE, HANDLE, NOTIFIED, OPENED, OVERRUN, REFUSED, REPLIED,
+    SEND_MD, SEND_PD, SILENT, VALUE,
 };
 use crate::start::start_of;
 use byteorder::{BigEndian, ByteOrder};
 use trdp_engine::{
     Answer, Indication, Message, Place, Protocol, Record, Reply, SessionId, Uri, What,
 };
+use trdp_text::bytes_in;
 
-/// A record in numbers: `struct trdp_node_record`. Which fields count says `what`; the others are
+/// A record in numbers: `struct trdp_node_record`. `what` says which fields count; the others are
 /// 0.
 #[repr(C)]
 #[derive(Drop)]
@@ -18,7 +30,7 @@ pub struct RecordNumbers {
     /// Where its value, payload or telegram lies until the next event.
     pub bytes: *const u8,
     /// How many bytes that has.
-    pub length: usize,
+    pub len: usize,
     /// Which record it is; 0 for none.
     pub what: u32,
     /// The handle of the object.
@@ -48,10 +60,26 @@ pub struct RecordNumbers {
 }
 
 impl RecordNumbers {
-    /// No record: all fields are 0, and there are no bytes.
-    pub fn clear(&mut self) {
+    /// Writes a record.
+    #[tactic(auto, unfolding(crate::specs::RecordOf::numbers_of))]
+    pub fn put(&mut self, record: &Record<'_>)
+        ensures { self.new ≡ numbers_of self.new.bytes (Some (record_model «record».now)) }
+    {
+        self.clear();
+        let bytes = bytes_in(&record.what);
+        self.bytes = start_of(bytes);
+        self.len = bytes.len();
+        self.slot = record.slot;
+        self.put_content(&record.what);
+    }
+
+    /// Writes that there is none.
+    #[tactic(auto, unfolding(crate::specs::RecordOf::numbers_of))]
+    pub fn clear(&mut self)
+        ensures { self.new ≡ numbers_of self.new.bytes None }
+    {
         self.bytes = start_of(&[]);
-        self.length = 0;
+        self.len = 0;
         self.what = 0;
         self.handle = 0;
         self.replier = 0;
@@ -67,25 +95,26 @@ impl RecordNumbers {
         self.destination_uri = [0; 32];
     }
 
-    /// Writes a record over one that is clear.
-    pub fn put(&mut self, record: &Record<'_>) {
-        self.slot = record.slot;
-        match &record.what {
+    /// Writes what a record says.
+    #[tactic(auto, unfolding(crate::specs::RecordOf::with_content))]
+    fn put_content(&mut self, what: &What<'_>)
+        ensures { self.new ≡ with_content (content_model what.now) self.old }
+    {
+        match what {
             What::Answer(answer) => self.put_answer(answer),
             What::Indication(indication) => self.put_indication(indication),
-            What::Send { kind, to, telegram } => {
-                self.what = match kind {
-                    Protocol::Pd => SEND_PD,
-                    Protocol::Md => SEND_MD,
-                };
+            What::Send { kind, to, .. } => {
+                self.what = sending_number(*kind);
                 self.put_place(*to);
-                self.put_bytes(telegram);
             }
         }
     }
 
     /// Writes an answer.
-    fn put_answer(&mut self, answer: &Answer<'_>) {
+    #[tactic(auto, unfolding(crate::specs::RecordOf::with_answer))]
+    fn put_answer(&mut self, answer: &Answer<'_>)
+        ensures { self.new ≡ with_answer (answer_model answer.now) self.old }
+    {
         match answer {
             Answer::Handle(handle) => self.put_handle(HANDLE, *handle),
             Answer::Done => self.what = DONE,
@@ -93,7 +122,6 @@ impl RecordNumbers {
                 self.what = VALUE;
                 self.code = value_number(peek.state);
                 self.counter = peek.counter;
-                self.put_bytes(peek.bytes);
             }
             Answer::Refused(refusal) => {
                 self.what = REFUSED;
@@ -104,7 +132,10 @@ impl RecordNumbers {
     }
 
     /// Writes an indication.
-    fn put_indication(&mut self, indication: &Indication<'_>) {
+    #[tactic(auto, unfolding(crate::specs::RecordOf::with_indication))]
+    fn put_indication(&mut self, indication: &Indication<'_>)
+        ensures { self.new ≡ with_indication (indication_model indication.now) self.old }
+    {
         match indication {
             Indication::Silent(handle) => self.put_handle(SILENT, *handle),
             Indication::Alive(handle) => self.put_handle(ALIVE, *handle),
@@ -140,48 +171,65 @@ impl RecordNumbers {
     }
 
     /// Writes which record it is, and a handle.
-    fn put_handle(&mut self, what: u32, handle: u32) {
+    fn put_handle(&mut self, what: u32, handle: u32)
+        ensures { self.new ≡ record self.old { what = what; handle = handle } }
+    {
         self.what = what;
         self.handle = handle;
     }
 
     /// Writes an address and its port.
-    fn put_place(&mut self, place: Place) {
+    fn put_place(&mut self, place: Place)
+        ensures { self.new ≡ with_place place self.old }
+    {
         self.address = place.ip.0;
         self.port = place.port;
     }
 
     /// Writes a session.
-    fn put_session(&mut self, session: SessionId) {
+    fn put_session(&mut self, session: SessionId)
+        ensures { self.new ≡ record self.old { session = big_bytes 16 session.0 } }
+    {
         BigEndian::write_u128(&mut self.session, session.0);
     }
 
     /// Writes a message that came in.
-    fn put_message(&mut self, message: &Message<'_>) {
+    #[tactic(auto, unfolding(crate::specs::RecordOf::with_message))]
+    fn put_message(&mut self, message: &Message<'_>)
+        ensures { self.new ≡ with_message (message_model message.now) self.old }
+    {
         self.put_place(message.src);
         self.com_id = message.com_id;
         put_uri(&mut self.source_uri, message.source_uri);
         put_uri(&mut self.destination_uri, message.dest_uri);
-        self.put_bytes(message.payload);
     }
 
     /// Writes an answer to a request that came in.
-    fn put_reply(&mut self, reply: &Reply<'_>) {
+    #[tactic(auto, unfolding(crate::specs::RecordOf::with_reply))]
+    fn put_reply(&mut self, reply: &Reply<'_>)
+        ensures { self.new ≡ with_reply (reply_model reply.now) self.old }
+    {
         self.put_place(reply.src);
         self.code = message_number(reply.kind);
         self.status = reply.status;
         self.com_id = reply.com_id;
-        self.put_bytes(reply.payload);
     }
+}
 
-    /// Writes where bytes lie, and how many they are.
-    fn put_bytes(&mut self, bytes: &[u8]) {
-        self.bytes = start_of(bytes);
-        self.length = bytes.len();
+/// The number of a telegram that is to be sent.
+fn sending_number(protocol: Protocol) -> u32
+    ensures { result ≡ sending_code protocol }
+{
+    match protocol {
+        Protocol::Pd => SEND_PD,
+        Protocol::Md => SEND_MD,
     }
 }
 
 /// Writes a URI, and zeros behind it.
-fn put_uri(room: &mut [u8; 32], uri: Uri) {
+fn put_uri(room: &mut [u8], uri: Uri)
+    requires { length room.old ≡ 32 }
+    ensures { room.new ≡ uri_field uri }
+{
     room.copy_from_slice(uri.field());
 }

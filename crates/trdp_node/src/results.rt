@@ -23,7 +23,7 @@ pub struct Text {
     /// Where the text lies until the next event, line or text.
     pub text: *const u8,
     /// How many bytes it has.
-    pub length: usize,
+    pub len: usize,
     /// How many records the event has.
     pub records: usize,
     /// The status.

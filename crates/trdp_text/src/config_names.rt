@@ -1,14 +1,15 @@
 //! The words of a fault of the configuration, as the program prints them.
 
-ghost use Rattle.std.specs.Prelude.{◌≡◌};
+ghost use Rattle.std.specs.Prelude.{◌≡◌, ◌≤◌, length};
 ghost use Rattle.trdp_text.specs.ConfigNames.{name_of_config_fault};
 
 use std::fmt;
 use trdp_dataset::ConfigFault;
 
 /// The name of a fault of the configuration (profile).
-fn config_fault_name(fault: ConfigFault) -> &'static str
-    ensures { result.now ≡ name_of_config_fault fault }
+pub fn config_fault_name(fault: ConfigFault) -> &'static str
+    ensures name { result.now ≡ name_of_config_fault fault }
+    ensures length { length result.now ≤ 11 }
 {
     match fault {
         ConfigFault::Toml => "Toml",

@@ -46,7 +46,7 @@ mod read_session;
 mod split;
 mod words;
 
-pub use config_names::ConfigFaultText;
+pub use config_names::{ConfigFaultText, config_fault_name};
 pub use fault::LineFault;
 pub use line::{LINE_MAX, read_event};
 pub use line_end::without_return;
@@ -54,6 +54,6 @@ pub use names::{fault_name, line_fault_name, reason_name, refusal_name};
 pub use operator_line::{OperatorLine, Question};
 pub use owned_line::{Line, read_control, read_line};
 pub use port::{read_control_event, read_operator};
-pub use print::{print_fault, print_record};
+pub use print::{bytes_in, print_fault, print_record};
 pub use print_all::print_records;
 pub use split::split_at_byte;

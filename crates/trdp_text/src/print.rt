@@ -66,7 +66,7 @@ pub fn print_fault(text: &mut Vec<u8>, fault: NodeFault) -> Result<(), AllocErro
 }
 
 /// The bytes that a record shows at its end in hexadecimal: a value, a payload or a telegram.
-fn bytes_in<'a>(what: &What<'a>) -> &'a [u8]
+pub fn bytes_in<'a>(what: &What<'a>) -> &'a [u8]
     ensures { result.now ≡ bytes_of (content_model what.now) }
 {
     match what {

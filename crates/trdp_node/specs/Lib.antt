@@ -1,0 +1,5 @@
+pub mod Codes
+pub mod EventOf
+pub mod RecordOf
+pub mod Outcomes
+pub mod Openings
