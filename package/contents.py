@@ -23,8 +23,9 @@ PACKAGES = {
     "libc.so.6": ("libc6", "GLIBC_"), "libm.so.6": ("libc6", "GLIBC_"), "ld-linux-x86-64.so.2": ("libc6", "GLIBC_"),
     "libgcc_s.so.1": ("libgcc-s1", "GCC_"),
 }
-# The kit's crates that come without a text of a licence, as package/licences.txt says.
-WITHOUT_LICENCE = ("libc", "os")
+# The kit's crates that come without a text of a licence, as package/licences.txt says. The last two are parts of its
+# standard library.
+WITHOUT_LICENCE = ("libc", "os", "core", "std_alloc")
 # What of examples/ only runs in the project's folder.
 RUNNERS = re.compile(r"(.*/)?(play|play(_\w+)?\.py|lossy/.*|__pycache__/.*)")
 # The lines of the unit in examples/ that give the control sockets of two applications to their groups.

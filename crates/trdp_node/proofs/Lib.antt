@@ -1,3 +1,4 @@
 pub mod NameLemmas
 pub mod NodeLemmas
+pub mod Owning
 pub mod RecordLemmas

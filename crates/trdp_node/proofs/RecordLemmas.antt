@@ -7,7 +7,8 @@ use Rattle.trdp_model.specs.Records.{RecordModel, Content, Answers, Indicates, S
 use Rattle.trdp_model.specs.Records.{HandleIs, DoneIs, ValueIs, RefusedIs, OpenedIs}
 use Rattle.trdp_model.specs.Records.{SilentIs, AliveIs, NotifiedIs, AskedIs, OverrunIs, RepliedIs}
 use Rattle.trdp_model.specs.Records.{ConfirmedIs, ClosedIs}
-use Rattle.trdp_node.specs.RecordOf.{with_content}
+use Rattle.trdp_node.specs.RecordOf.{with_answer, with_content, with_indication, with_message}
+use Rattle.trdp_node.specs.RecordOf.{with_reply}
 use Rattle.trdp_node.specs.declared.record.RecordNumbers.{RecordNumbers}
 
 -- one more record came
@@ -23,7 +24,7 @@ found_there (x ∷ done) rest r = found_there done rest r
 
 -- the place of its bytes is nothing that the content says
 pub bytes_stay : (content : Content) (n : RecordNumbers) → (with_content content n).bytes ≡ n.bytes
-unfolding with_content
+unfolding with_content with_answer with_indication with_message with_reply
 bytes_stay (Answers (HandleIs handle)) n = refl
 bytes_stay (Answers DoneIs) n = refl
 bytes_stay (Answers (ValueIs peek)) n = refl

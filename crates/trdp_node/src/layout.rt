@@ -150,7 +150,7 @@ pub fn field_at(event: &EventNumbers, field: usize) -> u64 {
         12 => u64::from(event.destination),
         13 => u64::from(event.reply_com_id),
         14 => u64::from(event.reply_address),
-        15 => u64::from(event.status as u32),
+        15 => u64::from(event.status.cast_unsigned()),
         16 => u64::from(event.slot),
         17 => u64::from(event.from_port),
         18 => u64::from(event.to_port),

@@ -24,9 +24,9 @@
 //! **Trusted**: that the pointer that [`trdp_node_raw_open`] writes is that of a node, as the
 //! other exports require it (its contract tells the fault alone); that C hands in such a pointer,
 //! until it closes the node, from one thread at a time; that its other pointers are good, are no
-//! part of the node, and are what their types say; the inline functions of the header; that
-//! `rattle_alloc`, `rattle_realloc` and `rattle_dealloc` are an allocator; and the compiler. That
-//! the address in a record is that of its bytes is said by `put` in `record.rt`, and by no export.
+//! part of the node, and are what their types say; the inline functions of the header; that the
+//! three functions which C gives for memory are an allocator; and the compiler. That the address
+//! in a record is that of its bytes is seen by reading `put` in `record.rt`.
 #![tactic(auto)]
 
 mod event;
@@ -35,6 +35,7 @@ mod held;
 mod layout;
 mod names;
 mod numbers;
+mod owned;
 mod record;
 mod record_numbers;
 mod results;
@@ -53,6 +54,7 @@ pub use record::RecordNumbers;
 pub use results::{Done, Fault, Name, State, Text};
 
 use crate::held::Held;
+use crate::owned::Owned;
 use std::alloc::Global;
 
 /// Opens a node with the configuration of a file in TOML, and writes where it lies; or writes the
@@ -87,12 +89,15 @@ pub unsafe extern "C" fn trdp_node_raw_close(alloc: Global, at: *mut u8)
     ghost held: { Held }
     requires* { sem 𝓛 (box_owns (ghosts.dealloc_token alloc) held_row at held) }
 {
-    close(Box::from_raw(alloc, at as *mut Held));
+    close(Owned {
+        at: at as *mut Held,
+        alloc,
+    });
 }
 
 /// Drops the node.
-fn close(held: Box<Held, Global>) {
-    drop(held);
+fn close(held: Owned<Held, Global>) {
+    drop(held.into_box());
 }
 
 /// Lets the node process the event of these numbers, with its bytes.

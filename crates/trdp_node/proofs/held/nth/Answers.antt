@@ -1,4 +1,4 @@
-use Rattle.std.proofs.Common.{[], ◌∷◌, ◌++◌, ◌∙◌, ap, arith, refl, rules, sym}
+use Rattle.std.proofs.Common.{[], ◌∷◌, ◌++◌, ◌∙◌, ap, arith, rules, sym}
 use Rattle.std.specs.Prelude.{slice_get}
 use Rattle.trdp_model.specs.Records.{record_model}
 use Rattle.trdp_outbox.proofs.SlotOrderLemmas.Walk.{walked_all, walked_one}
@@ -11,7 +11,7 @@ loop-record-init c = record {
   ends = search rules;
   came = (
     [],
-    refl,
+    omega arith,
     sym (c.into_iter-record-iterator.ensures.into_iter_gives ∙ c.by_slot-record-items.ensures),
   );
 }
