@@ -21,15 +21,17 @@ pub answered : (old new : NodeState) (before records : List RecordModel) (event 
     → new.config ≡ old.config
     → OnOk result (new.globals ≡ globals_after old.globals event)
     → OnOk result ((s : ℕ)
-        → StepsAsAlone (uncounted old) (uncounted new) before records event s)
+    → StepsAsAlone (uncounted old) (uncounted new) before records event s)
     → AnswersEvent old new records event result
-answered old new before records event (Ok done) empty taken kept none memory config globals steps =
-    (no_fault (fault_in old event) taken, record {
-      node = node_played (uncounted old) (uncounted new) before records event taken config globals
-          steps;
-      alone = λ s. subst (λ rs. StepsAsAlone (uncounted old) (uncounted new) rs records event s)
-          empty (steps s);
-      told = text_played (uncounted old) (uncounted new) before records event taken empty steps;
-    })
+answered old new before records event (Ok done) empty taken kept none memory config globals steps = (
+  no_fault (fault_in old event) taken,
+  record {
+    node = node_played (uncounted old) (uncounted new) before records event taken config globals
+        steps;
+    alone = λ s. subst (λ rs. StepsAsAlone (uncounted old) (uncounted new) rs records event s)
+        empty (steps s);
+    told = text_played (uncounted old) (uncounted new) before records event taken empty steps;
+  },
+)
 answered old new before records event (Err fault) empty taken kept none memory config globals steps =
     (taken, record { node = kept; none = none ∙ empty }, λ is. memory (ap Err is))

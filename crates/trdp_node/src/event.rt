@@ -9,7 +9,9 @@ ghost use Rattle.trdp_node.specs.EventOf.{publisher_of, requester_of, subscripti
 ghost use Rattle.trdp_node.specs.EventOf.{topo_of};
 
 use crate::event_numbers::{
-    MOMENT, TOPOLOGY, ROLE, PD, MD, ADD_SLOT, PUBLISH, PUT, UNPUBLISH, SUBSCRIBE, GET, UNSUBSCRIBE, OPEN_PULL, PULL, CLOSE_PULL, LISTEN, UNLISTEN, NOTIFY, REQUEST, REPLY, QUERY, REPLY_ERROR, CONFIRM, ABORT, RESET,
+    ABORT, ADD_SLOT, CLOSE_PULL, CONFIRM, GET, LISTEN, MD, MOMENT, NOTIFY, OPEN_PULL, PD, PUBLISH,
+    PULL, PUT, QUERY, REPLY, REPLY_ERROR, REQUEST, RESET, ROLE, SUBSCRIBE, TOPOLOGY, UNLISTEN,
+    UNPUBLISH, UNSUBSCRIBE,
 };
 use crate::numbers::{BAD_FLAG, BAD_QUOTA, NO_EVENT};
 use byteorder::{BigEndian, ByteOrder};

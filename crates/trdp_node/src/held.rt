@@ -87,12 +87,7 @@ impl Held {
         self.records.clear();
         text.status = match read_event(&mut self.bytes, line) {
             Ok(None) => OK,
-            Ok(Some(event)) => play(
-                &mut self.node,
-                &event,
-                &mut self.records,
-                &mut self.text,
-            ),
+            Ok(Some(event)) => play(&mut self.node, &event, &mut self.records, &mut self.text),
             Err(fault) => line_fault_number(fault),
         };
         self.lend(text);

@@ -49,12 +49,11 @@ ghost use Rattle.trdp_node.specs.contracts.held.Held.{the_row as held_row};
 ghost use Rattle.trdp_node.specs.Openings.{Answers};
 ghost use Rattle.trdp_node.specs.Outcomes.{Prints, Shows, Steps, TakesLine, Tells};
 
+use crate::held::Held;
+use crate::owned::Owned;
 pub use event::EventNumbers;
 pub use record::RecordNumbers;
 pub use results::{Done, Fault, Name, State, Text};
-
-use crate::held::Held;
-use crate::owned::Owned;
 use std::alloc::Global;
 
 /// Opens a node with the configuration of a file in TOML, and writes where it lies; or writes the

@@ -37,6 +37,7 @@ use Rattle.trdp_node.proofs.close.Met.{met}
 use Rattle.trdp_node.specs.contracts.trdp_node_raw_close as f
 use Rattle.trdp_node.proofs.trdp_node_raw_close.Statement.{statement}
 use Rattle.trdp_node.proofs.trdp_node_raw_close.Code as code
+
 pub trdp_node_raw_close_spec : {M : Type 1} → statement M
 trdp_node_raw_close_spec 𝓤 𝓛 𝓜 𝓡 wired =
     let H = 𝓛.H in let 𝓣 = tables 𝓤 H 𝓜 𝓡 𝓡.env in let Z : RattleType = heap.the_row in let LZ = heap_laws.the_row_laws in let R : RattleType = node.the_row in
