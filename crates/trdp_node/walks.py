@@ -49,10 +49,10 @@ class Export(NamedTuple):
 EXPORTS = (
     Export("step", "step", "Steps", (
         Param("ref", "event.EventNumbers"), Param("bytes"), Param("written", "results.Done"))),
-    Export("record", "show", "Shows", (Param("number"), Param("written", "record.RecordNumbers"))),
-    Export("line", "take_line", "TakesLine", (Param("bytes"), Param("written", "results.Text"))),
+    Export("record", "show", "ShowsRecord", (Param("number"), Param("written", "record.RecordNumbers"))),
+    Export("line", "take_line", "TakesInLine", (Param("bytes"), Param("written", "results.Text"))),
     Export("text", "print", "Prints", (Param("written", "results.Text"),)),
-    Export("state", "look", "Tells", (Param("written", "results.State"),)),
+    Export("state", "look", "TellsState", (Param("written", "results.State"),)),
 )
 
 

@@ -11,11 +11,11 @@ use Rattle.trdp_model.specs.NodeModels.{StepsAsAlone, MayTakeMemory}
 use Rattle.trdp_model.specs.Records.{RecordModel}
 use Rattle.trdp_outbox.proofs.SlotOrderLemmas.Played.{no_fault, node_played}
 use Rattle.trdp_text.proofs.TextLemmas.Events.{text_played}
-use Rattle.trdp_node.specs.Outcomes.{AnswersEvent, fault_in}
+use Rattle.trdp_node.specs.Outcomes.{AnswersEvent, fault_now}
 
 pub answered : (old new : NodeState) (before records : List RecordModel) (event : EventModel)
     (result : Result (Unit {0}) NodeFault) → before ≡ []
-    → FaultIs (fault_in old event) result
+    → FaultIs (fault_now old event) result
     → OnErr result (new ≡ old) → OnErr result (records ≡ before)
     → (result ≡ Err OutOfMemory → MayTakeMemory (uncounted old) event)
     → new.config ≡ old.config
@@ -24,7 +24,7 @@ pub answered : (old new : NodeState) (before records : List RecordModel) (event 
     → StepsAsAlone (uncounted old) (uncounted new) before records event s)
     → AnswersEvent old new records event result
 answered old new before records event (Ok done) empty taken kept none memory config globals steps = (
-  no_fault (fault_in old event) taken,
+  no_fault (fault_now old event) taken,
   record {
     node = node_played (uncounted old) (uncounted new) before records event taken config globals
         steps;

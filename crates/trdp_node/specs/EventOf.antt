@@ -42,12 +42,12 @@ abbrev pub ip_of : ℕ → Ip
 ip_of n = record { 0 = n }
 
 -- the place of an address and a port
-abbrev pub place_of : ℕ → ℕ → Place
-place_of address port = record { ip = ip_of address; port = port }
+abbrev pub address_place : ℕ → ℕ → Place
+address_place address port = record { ip = ip_of address; port = port }
 
 -- where it goes
 abbrev pub to_of : EventNumbers → Place
-to_of n = place_of n.to_address n.to_port
+to_of n = address_place n.to_address n.to_port
 
 -- the topology counters
 abbrev pub topo_of : EventNumbers → Topo
@@ -65,8 +65,8 @@ publisher_of n = record {
 }
 
 -- what a subscription is made from, which keeps its value or not
-unfoldable pub subscription_of : EventNumbers → Bool → SubscriptionTerms
-subscription_of n keep = record {
+unfoldable pub subscription_meant : EventNumbers → Bool → SubscriptionTerms
+subscription_meant n keep = record {
   filter = record {
     com_id = n.com_id;
     low = ip_of n.low;
@@ -125,13 +125,13 @@ caller_of n = record {
 }
 
 -- the call that numbers mean, with these bytes; the status of numbers that mean none
-unfoldable pub call_of : EventNumbers → List ℕ → Result CallModel ℕ
-call_of n bytes =
+unfoldable pub call_meant : EventNumbers → List ℕ → Result CallModel ℕ
+call_meant n bytes =
     if n.what == 10 then Ok (PublishCall (publisher_of n)) else
     if n.what == 11 then Ok (PutCall n.handle bytes) else
     if n.what == 12 then Ok (UnpublishCall n.handle) else
     if n.what == 13
-    then made_of (flag_of n.keep) (λ keep. SubscribeCall (subscription_of n keep)) else
+    then made_of (flag_of n.keep) (λ keep. SubscribeCall (subscription_meant n keep)) else
     if n.what == 14 then Ok (GetCall n.handle) else
     if n.what == 15 then Ok (UnsubscribeCall n.handle) else
     if n.what == 16 then Ok (OpenPullCall (requester_of n)) else
@@ -152,11 +152,11 @@ call_of n bytes =
 -- the datagram that numbers mean
 unfoldable pub datagram_of : Protocol → EventNumbers → List ℕ → EventModel
 datagram_of protocol n bytes =
-    DatagramIs protocol (place_of n.from_address n.from_port) (to_of n) bytes
+    DatagramIs protocol (address_place n.from_address n.from_port) (to_of n) bytes
 
 -- the slot that is to be added; the status of quotas of which one is above its limit
-unfoldable pub slot_of : EventNumbers → Result EventModel ℕ
-slot_of n =
+unfoldable pub slot_meant : EventNumbers → Result EventModel ℕ
+slot_meant n =
     if list_all (λ count. nat_le count quota_limit) n.quotas then Ok (AddSlotIs n.quotas)
     else Err 23
 
@@ -168,8 +168,8 @@ event_of n bytes =
     if n.what == 3 then made_of (flag_of n.leader) (λ leader. RoleIs n.group leader) else
     if n.what == 4 then Ok (datagram_of Pd n bytes) else
     if n.what == 5 then Ok (datagram_of Md n bytes) else
-    if n.what == 6 then slot_of n else
-    made_of (call_of n bytes) (λ call. CallIs n.slot call)
+    if n.what == 6 then slot_meant n else
+    made_of (call_meant n bytes) (λ call. CallIs n.slot call)
 
 -- a call that was read, apart from where its bytes are
 abbrev pub call_read : Result Call ℕ → Result CallModel ℕ

@@ -18,7 +18,7 @@ use Rattle.trdp_text.specs.Lines.{line_of}
 use Rattle.trdp_text.specs.RecordText.{text_of_record}
 use Rattle.trdp_node.specs.Codes.{status_of_fault, status_of_line_fault}
 use Rattle.trdp_node.specs.EventOf.{event_of}
-use Rattle.trdp_node.specs.RecordOf.{numbers_of}
+use Rattle.trdp_node.specs.RecordOf.{record_numbers}
 use Rattle.trdp_node.specs.declared.event.EventNumbers.{EventNumbers}
 use Rattle.trdp_node.specs.declared.record.RecordNumbers.{RecordNumbers}
 use Rattle.trdp_node.specs.declared.results.Done.{Done}
@@ -40,16 +40,16 @@ pub record Processes (old new : NodeState) (records : List RecordModel) (event :
   pub told : flat_map text_of_record (by_slot records) ≡ event_text (uncounted old) event
 
 -- the fault of an event in this node, other than that there is no memory
-abbrev pub fault_in : NodeState → EventModel → Option NodeFault
-fault_in node event = refused_as (length node.slots) node.globals event
+abbrev pub fault_now : NodeState → EventModel → Option NodeFault
+fault_now node event = refused_as (length node.slots) node.globals event
 
 -- the node's answer to an event, and its records
 abbrev pub AnswersEvent : NodeState → NodeState → List RecordModel → EventModel
     → Result (Unit {0}) NodeFault → Type 0
 AnswersEvent old new records event (Ok done) =
-    (fault_in old event ≡ None) × Processes old new records event
+    (fault_now old event ≡ None) × Processes old new records event
 AnswersEvent old new records event (Err fault) =
-    FaultIs (fault_in old event) (Err fault) × Stays old new records
+    FaultIs (fault_now old event) (Err fault) × Stays old new records
     × (fault ≡ OutOfMemory → MayTakeMemory (uncounted old) event)
 
 -- the status of an answer
@@ -78,7 +78,7 @@ TextIs (Err fault) whole status text =
     ⊎ ((status ≡ 5) × (text ≡ []))
 
 -- an event was played
-pub record Plays (old new : NodeState) (records : List RecordModel) (event : EventModel)
+pub record PlaysEvent (old new : NodeState) (records : List RecordModel) (event : EventModel)
     (text : List ℕ) (status : ℕ) : Type 0 where
   pub answer : Result (Unit {0}) NodeFault
   pub answers : AnswersEvent old new records event answer
@@ -88,7 +88,7 @@ pub record Plays (old new : NodeState) (records : List RecordModel) (event : Eve
 abbrev pub LineTo : Result (Option EventModel) LineFault → NodeState → NodeState
     → List RecordModel → List ℕ → ℕ → Type 0
 LineTo (Ok (Some event)) old new records text status =
-    Plays old new records event text status
+    PlaysEvent old new records event text status
     ⊎ ((carries_bytes (Some event) ≡ true) × Stays old new records × (text ≡ []) × (status ≡ 5))
 LineTo (Ok None) old new records text status =
     Stays old new records × (text ≡ []) × (status ≡ 0)
@@ -102,7 +102,7 @@ pub record Lends (held : Held) (text : Text) : Type 0 where
   pub count : text.records ≡ length held.records.records
 
 -- a line, in bytes without its end
-pub record TakesLine (old new : Held) (line : List ℕ) (text : Text) : Type 0 where
+pub record TakesInLine (old new : Held) (line : List ℕ) (text : Text) : Type 0 where
   pub comes : LineTo (line_of line) old.node new.node new.records.records new.text.items
       text.status
   pub lends : Lends new text
@@ -121,10 +121,10 @@ pub record Prints (old new : Held) (text : Text) : Type 0 where
   pub lends : Lends new text
 
 -- the record of that index, slot by slot; the node stays
-pub record Shows (old new : Held) (index : ℕ) (numbers : RecordNumbers) : Type 0 where
+pub record ShowsRecord (old new : Held) (index : ℕ) (numbers : RecordNumbers) : Type 0 where
   pub stays : new ≡ old
   pub says : numbers
-      ≡ numbers_of numbers.bytes (slice_get (by_slot old.records.records) index)
+      ≡ record_numbers numbers.bytes (slice_get (by_slot old.records.records) index)
 
 -- a moment, or for none the greatest number
 abbrev pub moment_or_last : Option ℕ → ℕ
@@ -140,6 +140,6 @@ pub record TellsOf (node : NodeState) (state : State) : Type 0 where
   pub count : state.slots ≡ length node.slots
 
 -- the same; the node stays
-pub record Tells (old new : Held) (state : State) : Type 0 where
+pub record TellsState (old new : Held) (state : State) : Type 0 where
   pub stays : new ≡ old
   pub tells : TellsOf old.node state

@@ -101,7 +101,7 @@ with_content (Sends protocol to telegram) n =
     record (with_place to n) { what = sending_code protocol }
 
 -- the numbers of a record whose bytes are at that address, or of none
-unfoldable pub numbers_of : Ptr → Option RecordModel → RecordNumbers
-numbers_of at None = no_numbers at
-numbers_of at (Some r) = with_content r.content
+unfoldable pub record_numbers : Ptr → Option RecordModel → RecordNumbers
+record_numbers at None = no_numbers at
+record_numbers at (Some r) = with_content r.content
     (record (no_numbers at) { slot = r.slot; len = length (bytes_of r.content) })

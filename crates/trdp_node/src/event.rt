@@ -3,9 +3,9 @@
 ghost use Rattle.std.specs.Prelude.{◌≡◌};
 ghost use Rattle.trdp_model.specs.Events.{call_model, event_model, NotifyCall, RequestCall};
 ghost use Rattle.trdp_model.specs.Events.{ReplyCall, QueryCall, ReplyErrorCall, ConfirmCall};
-ghost use Rattle.trdp_node.specs.EventOf.{call_of, call_read, caller_of, datagram_of, event_of};
+ghost use Rattle.trdp_node.specs.EventOf.{call_meant, call_read, caller_of, datagram_of, event_of};
 ghost use Rattle.trdp_node.specs.EventOf.{event_read, flag_of, listener_of, notice_of};
-ghost use Rattle.trdp_node.specs.EventOf.{publisher_of, requester_of, subscription_of, to_of};
+ghost use Rattle.trdp_node.specs.EventOf.{publisher_of, requester_of, subscription_meant, to_of};
 ghost use Rattle.trdp_node.specs.EventOf.{topo_of};
 
 use crate::event_numbers::{
@@ -89,7 +89,7 @@ impl EventNumbers {
     ///
     /// # Errors
     /// The status: `NO_EVENT` where `what` is none, `BAD_FLAG`, `BAD_QUOTA`.
-    #[tactic(auto, unfolding(crate::specs::EventOf::event_of, crate::specs::EventOf::datagram_of, crate::specs::EventOf::slot_of))]
+    #[tactic(auto, unfolding(crate::specs::EventOf::event_of, crate::specs::EventOf::datagram_of, crate::specs::EventOf::slot_meant))]
     pub fn read<'a>(&self, bytes: &'a [u8]) -> Result<Event<'a>, u32>
         ensures { event_read result ≡ event_of self.now bytes.now }
     {
@@ -136,9 +136,9 @@ impl EventNumbers {
     ///
     /// # Errors
     /// `NO_EVENT`, `BAD_FLAG`.
-    #[tactic(auto, unfolding(crate::specs::EventOf::call_of))]
+    #[tactic(auto, unfolding(crate::specs::EventOf::call_meant))]
     fn call<'a>(&self, bytes: &'a [u8]) -> Result<Call<'a>, u32>
-        ensures { call_read result ≡ call_of self.now bytes.now }
+        ensures { call_read result ≡ call_meant self.now bytes.now }
     {
         let handle = self.handle;
         match self.what {
@@ -286,9 +286,9 @@ impl EventNumbers {
     }
 
     /// What a subscription is made from, which keeps its value or not.
-    #[tactic(auto, unfolding(crate::specs::EventOf::subscription_of))]
+    #[tactic(auto, unfolding(crate::specs::EventOf::subscription_meant))]
     fn subscription(&self, keep: bool) -> SubscriptionTerms
-        ensures { result ≡ subscription_of self.now keep }
+        ensures { result ≡ subscription_meant self.now keep }
     {
         SubscriptionTerms {
             filter: PdFilter {

@@ -4,10 +4,10 @@ ghost use Rattle.std.specs.Prelude.{◌≡◌, [], IfOk, IfErr, option_map, slic
 ghost use Rattle.trdp_model.specs.Events.{event_model};
 ghost use Rattle.trdp_model.specs.Records.{record_model};
 ghost use Rattle.trdp_outbox.specs.SlotOrder.{by_slot};
-ghost use Rattle.trdp_node.specs.Outcomes.{AnswersEvent, Lends, Plays, Prints, Steps};
-ghost use Rattle.trdp_node.specs.Outcomes.{TakesLine, TellsOf, status_of as status_of_answer};
+ghost use Rattle.trdp_node.specs.Outcomes.{AnswersEvent, Lends, PlaysEvent, Prints, Steps};
+ghost use Rattle.trdp_node.specs.Outcomes.{TakesInLine, TellsOf, status_of as status_of_answer};
 ghost use Rattle.trdp_node.specs.Openings.{Opens, Refuses};
-ghost use Rattle.trdp_node.specs.RecordOf.{numbers_of};
+ghost use Rattle.trdp_node.specs.RecordOf.{record_numbers};
 
 use crate::event::EventNumbers;
 use crate::numbers::{OK, OUT_OF_MEMORY, TEXT_LOST, fault_number, line_fault_number};
@@ -70,7 +70,7 @@ impl Held {
 
     /// Writes the record of that index, slot by slot.
     pub fn record(&self, index: usize, numbers: &mut RecordNumbers)
-        ensures { numbers.new ≡ numbers_of numbers.new.bytes
+        ensures { numbers.new ≡ record_numbers numbers.new.bytes
             (slice_get (by_slot self.now.records.records) index) }
     {
         match nth(&self.records, index) {
@@ -81,7 +81,7 @@ impl Held {
 
     /// Processes the event of a line.
     pub fn line(&mut self, line: &[u8], text: &mut Text)
-        ensures { TakesLine self.old self.new line.now text.new }
+        ensures { TakesInLine self.old self.new line.now text.new }
     {
         self.text.clear();
         self.records.clear();
@@ -154,7 +154,7 @@ fn process(node: &mut Node, event: &Event<'_>, records: &mut Outbox) -> Result<(
 fn play(node: &mut Node, event: &Event<'_>, records: &mut Outbox, text: &mut Vec<u8>) -> u32
     requires records { records.old.records ≡ [] }
     requires text { text.old.items ≡ [] }
-    ensures { Plays node.old node.new records.new.records (event_model event.now) text.new.items
+    ensures { PlaysEvent node.old node.new records.new.records (event_model event.now) text.new.items
         result }
 {
     match process(node, event, records) {

@@ -47,7 +47,7 @@ ghost use Rattle.std_alloc.specs.Box.Ownership.{box_owns};
 ghost use Rattle.std.specs.contracts.impls.GlobalAllocator.TheImpl.{ghosts};
 ghost use Rattle.trdp_node.specs.contracts.held.Held.{the_row as held_row};
 ghost use Rattle.trdp_node.specs.Openings.{Answers};
-ghost use Rattle.trdp_node.specs.Outcomes.{Prints, Shows, Steps, TakesLine, Tells};
+ghost use Rattle.trdp_node.specs.Outcomes.{Prints, ShowsRecord, Steps, TakesInLine, TellsState};
 
 use crate::held::Held;
 use crate::owned::Owned;
@@ -137,7 +137,7 @@ pub unsafe extern "C" fn trdp_node_raw_record(
     requires* { sem 𝓛 (box_owns (ghosts.dealloc_token alloc) held_row at held) }
     ensures* { ∃ₛ (λ (after : Held). sem 𝓛
         (box_owns (ghosts.dealloc_token alloc) held_row at after)
-        ∗ ⌜ Shows held after index numbers.new ⌝) }
+        ∗ ⌜ ShowsRecord held after index numbers.new ⌝) }
 {
     let held = &mut *(at as *mut Held);
     show(held, index, numbers);
@@ -145,7 +145,7 @@ pub unsafe extern "C" fn trdp_node_raw_record(
 
 /// Writes a record.
 fn show(held: &mut Held, index: usize, numbers: &mut RecordNumbers)
-    ensures { Shows held.old held.new index numbers.new }
+    ensures { ShowsRecord held.old held.new index numbers.new }
 {
     held.record(index, numbers);
 }
@@ -162,7 +162,7 @@ pub unsafe extern "C" fn trdp_node_raw_line(
     requires* { sem 𝓛 (box_owns (ghosts.dealloc_token alloc) held_row at held) }
     ensures* { ∃ₛ (λ (after : Held). sem 𝓛
         (box_owns (ghosts.dealloc_token alloc) held_row at after)
-        ∗ ⌜ TakesLine held after line.now text.new ⌝) }
+        ∗ ⌜ TakesInLine held after line.now text.new ⌝) }
 {
     let held = &mut *(at as *mut Held);
     take_line(held, line, text);
@@ -170,7 +170,7 @@ pub unsafe extern "C" fn trdp_node_raw_line(
 
 /// Lets the node process the event of a line.
 fn take_line(held: &mut Held, line: &[u8], text: &mut Text)
-    ensures { TakesLine held.old held.new line.now text.new }
+    ensures { TakesInLine held.old held.new line.now text.new }
 {
     held.line(line, text);
 }
@@ -202,7 +202,7 @@ pub unsafe extern "C" fn trdp_node_raw_state(alloc: Global, at: *mut u8, state: 
     requires* { sem 𝓛 (box_owns (ghosts.dealloc_token alloc) held_row at held) }
     ensures* { ∃ₛ (λ (after : Held). sem 𝓛
         (box_owns (ghosts.dealloc_token alloc) held_row at after)
-        ∗ ⌜ Tells held after state.new ⌝) }
+        ∗ ⌜ TellsState held after state.new ⌝) }
 {
     let held = &mut *(at as *mut Held);
     look(held, state);
@@ -210,7 +210,7 @@ pub unsafe extern "C" fn trdp_node_raw_state(alloc: Global, at: *mut u8, state: 
 
 /// Tells of the node.
 fn look(held: &mut Held, state: &mut State)
-    ensures { Tells held.old held.new state.new }
+    ensures { TellsState held.old held.new state.new }
 {
     held.state(state);
 }

@@ -6,7 +6,7 @@ ghost use Rattle.trdp_base.specs.Uris.{uri_field};
 ghost use Rattle.trdp_model.specs.Records.{answer_model, content_model, indication_model};
 ghost use Rattle.trdp_model.specs.Records.{message_model, record_model, reply_model};
 ghost use Rattle.trdp_node.specs.Codes.{message_code, reason_code, refusal_code, value_code};
-ghost use Rattle.trdp_node.specs.RecordOf.{no_numbers, numbers_of, with_answer, with_content};
+ghost use Rattle.trdp_node.specs.RecordOf.{no_numbers, record_numbers, with_answer, with_content};
 ghost use Rattle.trdp_node.specs.RecordOf.{with_indication, with_message, with_place, with_reply};
 ghost use Rattle.trdp_node.specs.RecordOf.{sending_code};
 
@@ -61,9 +61,9 @@ pub struct RecordNumbers {
 
 impl RecordNumbers {
     /// Writes a record.
-    #[tactic(auto, unfolding(crate::specs::RecordOf::numbers_of))]
+    #[tactic(auto, unfolding(crate::specs::RecordOf::record_numbers))]
     pub fn put(&mut self, record: &Record<'_>)
-        ensures { self.new ≡ numbers_of self.new.bytes (Some (record_model «record».now)) }
+        ensures { self.new ≡ record_numbers self.new.bytes (Some (record_model «record».now)) }
     {
         self.clear();
         let bytes = bytes_in(&record.what);
@@ -74,9 +74,9 @@ impl RecordNumbers {
     }
 
     /// Writes that there is none.
-    #[tactic(auto, unfolding(crate::specs::RecordOf::numbers_of))]
+    #[tactic(auto, unfolding(crate::specs::RecordOf::record_numbers))]
     pub fn clear(&mut self)
-        ensures { self.new ≡ numbers_of self.new.bytes None }
+        ensures { self.new ≡ record_numbers self.new.bytes None }
     {
         self.bytes = start_of(&[]);
         self.len = 0;

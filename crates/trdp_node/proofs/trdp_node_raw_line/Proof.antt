@@ -37,7 +37,7 @@ use Rattle.std.specs.contracts.impls.GlobalAllocator.TheImpl.{ghosts}
 use Rattle.std_alloc.specs.Box.Ownership.{box_owns}
 use Rattle.std.specs.contracts.alloc.Global as heap
 use Rattle.std.proofs.alloc.Global.TheLaws as heap_laws
-use Rattle.trdp_node.specs.Outcomes.{TakesLine}
+use Rattle.trdp_node.specs.Outcomes.{TakesInLine}
 use Rattle.trdp_node.specs.contracts.held.Held as node
 use Rattle.trdp_node.specs.contracts.results.Text as row1
 use Rattle.trdp_node.specs.contracts.take_line as g
@@ -95,7 +95,7 @@ trdp_node_raw_line_spec 𝓤 𝓛 𝓜 𝓡 wired =
     use1 𝓛 (later (some (λ (r : Unit {0}). (all ⊛ ‵ (unit.own_val r (v ∷ []))) ⊛ some (λ (ls : Lasts g.ended y.0.0 y.0.3). ‵ (lasts g.ended y.0.0 y.0.3 ls) ⊛ raw ((g.clauses 𝓛 𝓜.mem 𝓡.returns y.0.0 y.0.3).ensures tt r (at_exit g.ended y.0.0 y.0.3 ls)))))) (id⊢ 𝓤 (G.post y v)) $
     await ! tt $ pick ! (λ r. split ! $ split ! $ move ! (1 ∷ []) $ feq_l ! (λ is_unit. lands_as ! (ap only is_unit) refl (tt, tt) $ move ! (1 ∷ []) $
     pick ! (λ ls. split ! $ move ! (1 ∷ []) $
-    let after = ls.0 in let written = ls.1.1.0 in let Did : R.Denot → Type 0 = λ (x : R.Denot). TakesLine value x x0.now written in
+    let after = ls.0 in let written = ls.1.1.0 in let Did : R.Denot → Type 0 = λ (x : R.Denot). TakesInLine value x x0.now written in
     heard ! (Did after) (λ did.
     -- the end of the loan: the node's memory is whole again
     fsplit ! $ fsplit ! $ move ! (1 ∷ []) $ drop ! $ move ! (1 ∷ []) $ fsplit ! $ drop ! $ fsplit ! $ move ! (1 ∷ []) $ drop ! $

@@ -3,12 +3,12 @@ use denote.RawPtr.{Ptr}
 use Rattle.trdp_model.specs.Records.{content_model}
 use Rattle.trdp_text.specs.RecordText.{bytes_of}
 use Rattle.trdp_node.specs.declared.record.RecordNumbers.{RecordNumbers}
-use Rattle.trdp_node.specs.RecordOf.{no_numbers, numbers_of, with_content}
+use Rattle.trdp_node.specs.RecordOf.{no_numbers, record_numbers, with_content}
 use Rattle.trdp_node.proofs.RecordLemmas.{bytes_stay}
 use Rattle.trdp_node.proofs.record.RecordNumbers.put.Goals as goal
 
 pub returns : goal.returns
-unfolding numbers_of
+unfolding record_numbers
 returns c =
     let content = content_model c.args.record.now.what in
     let slot = c.args.record.now.slot in let shown = c.bytes_in-bytes.result.now in
