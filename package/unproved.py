@@ -69,8 +69,8 @@ def write_script(path: pathlib.Path, text: str) -> None:
     path.chmod(0o755)
 
 
-def make_kit(kit: pathlib.Path, copy: pathlib.Path, kept: pathlib.Path) -> None:
-    """Makes the folder of links to the kit, whose linker keeps the first program at that path."""
+def make_kit(kit: pathlib.Path, copy: pathlib.Path, kept: pathlib.Path, clang: str = CLANG) -> None:
+    """Makes the folder of links to the kit, whose linker keeps the first program at that path, with a script as clang."""
     link_all(kit, copy, "bin", "toolchain")
     link_all(kit / "bin", copy / "bin", "rt", "rtlib.py", "rattle")
     # `rt` finds the rest of its kit beside its own file. `rattle` would look for hints meanwhile, for a minute.
@@ -80,22 +80,43 @@ def make_kit(kit: pathlib.Path, copy: pathlib.Path, kept: pathlib.Path) -> None:
     tools = kit / "toolchain/bin"
     link_all(kit / "toolchain", copy / "toolchain", "bin")
     link_all(tools, copy / "toolchain/bin", "clang", "ld.lld")
-    write_script(copy / "toolchain/bin/clang", CLANG.format(clang=tools / "clang"))
+    write_script(copy / "toolchain/bin/clang", clang.format(clang=tools / "clang", kept=kept))
     write_script(copy / "toolchain/bin/ld.lld", LINKER.format(linker=tools / "ld.lld", kept=kept))
+
+
+def copy_sources(copy: pathlib.Path) -> None:
+    """Copies the sources into a new tree."""
+    shutil.copytree(TOP / "crates", copy / "crates", ignore=shutil.ignore_patterns("out", "proofs", "must-fail"))
+    for name in ("crates.txt", "HANDLES"):
+        shutil.copy(TOP / name, copy)
+    subprocess.run(["git", "init", "-q", copy], check=True)
 
 
 def copy_tree(copy: pathlib.Path) -> pathlib.Path:
     """Copies the sources, in which the program claims no proof. Answers the folder of the program's crate."""
-    shutil.copytree(TOP / "crates", copy / "crates", ignore=shutil.ignore_patterns("out", "proofs", "must-fail"))
-    for name in ("crates.txt", "HANDLES"):
-        shutil.copy(TOP / name, copy)
+    copy_sources(copy)
     main = copy / "crates/trdpd/src/main.rt"
     text = main.read_text("utf-8")
     if text.count(CLAIM) != 1:
         raise NoProgram(f"{main.relative_to(copy)} doesn't say {CLAIM!r} once")
     main.write_text(text.replace(CLAIM, NO_CLAIM), "utf-8")
-    subprocess.run(["git", "init", "-q", copy], check=True)
     return main.parent.parent
+
+
+def find_kit() -> pathlib.Path:
+    """The folder of the Rattle kit."""
+    found = shutil.which(os.environ.get("RT") or "rt")
+    if found is None:
+        raise NoProgram("the Rattle kit's command rt must be on PATH, or its path in RT")
+    return pathlib.Path(found).resolve().parent.parent
+
+
+def try_crate(crate: pathlib.Path, kit: pathlib.Path, kept: pathlib.Path) -> None:
+    """Runs `rt try` of that kit in a crate's folder, so that it keeps what is made."""
+    words = [str(kit / "bin/rt"), "try", "--", "--version"]
+    ran = subprocess.run(words, cwd=crate, stdin=subprocess.DEVNULL, capture_output=True, text=True)
+    if not kept.exists():
+        raise NoProgram(f"rt try said: {ran.stderr.strip() or ran.stdout.strip()}")
 
 
 def build(target: pathlib.Path, scratch: pathlib.Path) -> None:
@@ -103,11 +124,7 @@ def build(target: pathlib.Path, scratch: pathlib.Path) -> None:
     kept = scratch / "program"
     make_kit(find_kit(), scratch / "kit", kept)
     (scratch / "tree").mkdir()
-    crate = copy_tree(scratch / "tree")
-    words = [str(scratch / "kit/bin/rt"), "try", "--", "--version"]
-    ran = subprocess.run(words, cwd=crate, stdin=subprocess.DEVNULL, capture_output=True, text=True)
-    if not kept.exists():
-        raise NoProgram(f"rt try said: {ran.stderr.strip() or ran.stdout.strip()}")
+    try_crate(copy_tree(scratch / "tree"), scratch / "kit", kept)
     target.parent.mkdir(parents=True, exist_ok=True)
     part = target.with_suffix(".part")
     shutil.copy(kept, part)
