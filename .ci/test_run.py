@@ -26,7 +26,9 @@ case $1 in
     lib | try) if [ -e "{control}/slow" ]; then touch "{control}/began"; sleep 3; fi ;;
 esac
 case $1 in
-    lib) test ! -e "{control}/fails" ;;
+    lib)
+        test ! -e "{control}/fails" || exit
+        case $PWD in */trdp_node) mkdir -p out; echo "a library" > out/libtrdp_node.a ;; esac ;;
     run) mkdir -p out; tell proved > out/trdpd; chmod +x out/trdpd ;;
     try)
         cd "$(mktemp -d)" || exit
@@ -40,10 +42,10 @@ LINKER = """#!/bin/sh
 printf '#!/bin/sh\\necho "trdpd 9.9.9, compiled: $*"\\n' > "$2"; chmod +x "$2"
 """
 TREE = {
-    "HANDLES": "Handles allowed: Net.\n", "crates.txt": "low:\ntrdpd: low\nother:\n",
+    "HANDLES": "Handles allowed: Net.\n", "crates.txt": "low:\ntrdpd: low\ntrdp_node staticlib: low\nother:\n",
     "crates/low/src/lib.rt": "fn low() {}\n", "crates/low/specs/Lib.antt": "-- a definition\n",
     "crates/low/proofs/low/Answers.antt": "-- a proof\n", "crates/other/src/lib.rt": "fn other() {}\n",
-    "crates/trdpd/src/main.rt": '"proved with logic {LOGIC}"\n',
+    "crates/trdpd/src/main.rt": '"proved with logic {LOGIC}"\n', "crates/trdp_node/src/lib.rt": "fn node() {}\n",
 }
 NONE = ("run: there is no program of these sources: ./run build compiles one without proof in about two minutes, "
         "./run prove proves one in about 30\n")
@@ -226,6 +228,29 @@ class Proved(Tree):
         self.write(self.scratch / "fails", "")
         self.assertEqual(self.run_words("prove")[0], 4)
         self.is_none("failed")
+
+
+class Library(Tree):
+    """The node's library for C, which has a record of its own."""
+
+    def test_it_is_proved_beside_the_program(self) -> None:
+        place = self.program("crates/trdp_node/out/libtrdp_node.a")
+        self.prove()
+        self.assertEqual(self.record("state", "trdp_node"), (0, "none\n"))
+        status, _, errors = self.run_words("prove", "library")
+        self.assertEqual((status, errors.splitlines()[-1]), (0, f"run: proved and built: {place}"), errors)
+        self.assertEqual(self.record("state", "trdp_node"), (0, f"proved {place}\n"))
+        self.assertEqual(self.run_words("build", "library")[2], f"run: trdp_node is built: proved {place}\n")
+        self.write(self.top / "crates/trdp_node/src/lib.rt", "fn other() {}\n")
+        self.assertEqual(self.record("state", "trdp_node"), (0, "none\n"))
+        self.is_proved()
+
+    def test_a_proof_that_fails_leaves_nothing(self) -> None:
+        self.assertEqual(self.run_words("prove", "library")[0], 0)
+        self.write(self.scratch / "fails", "")
+        self.write(self.top / "crates/low/src/lib.rt", "fn other() {}\n")
+        self.assertEqual(self.run_words("prove", "library")[0], 4)
+        self.assertEqual(self.record("state", "trdp_node"), (0, "none\n"))
 
 
 class Built(Tree):

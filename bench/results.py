@@ -27,7 +27,7 @@ sys.path.insert(0, str(TOP / "package"))
 import record  # noqa: E402
 
 FOLDER = TOP / "bench/results"
-PROGRAM = TOP / record.PLACES["proved"]
+PROGRAM = TOP / record.place_of("proved")
 """The program that ./run prove makes."""
 BEGUN = time.monotonic()
 """When the script began, as far as this module knows."""

@@ -1,7 +1,9 @@
 #!/usr/bin/env python3
-"""Proves and builds the program, crate by crate, several crates at a time.
+"""Proves and builds the program, or the node's library for C, crate by crate, several crates at a time.
 
-    package/prove.py                        `./run prove` runs it, and holds the lock of the build meanwhile
+    package/prove.py [CRATE]                `./run prove` runs it, and holds the lock of the build meanwhile
+
+CRATE is `trdpd` or `trdp_node`.
 
 A crate begins when the crates below it are proved, the crate with the longest chain of crates above it first. At most
 as many crates are proved at a time as there are processors, and only one for each 3 GB of free memory. The crate with
@@ -37,7 +39,6 @@ import copies  # noqa: E402
 import record  # noqa: E402
 
 TOP = record.TOP
-PROGRAM = TOP / record.PLACES["proved"]
 NOTES = TOP / "out/proof"
 MEMINFO = pathlib.Path("/proc/meminfo")
 # The free memory for each crate that is proved at a time, in bytes, and the most processes for one crate.
@@ -47,6 +48,8 @@ MEMORY, PROCESSES = 3_000_000_000, 4
 TELLS, LOOKS, LEAST = 30.0, 0.1, 3.0
 # What lowers the priority of a crate's processes.
 LOWER = ["nice", "-n", "10"]
+# About how many minutes the first proof takes on four processors.
+MINUTES = {record.PROGRAM: 30, record.LIBRARY: 25}
 # Seconds for each byte of a crate's sources, as long as no crate was proved here.
 GUESS = 0.0008
 
@@ -116,10 +119,11 @@ class Proof:
 class Build:
     """The crates that are proved, those that are being proved, and those that may begin."""
 
-    def __init__(self, folder: pathlib.Path) -> None:
-        self.folder = folder
+    def __init__(self, folder: pathlib.Path, goal: str) -> None:
+        self.folder, self.goal = folder, goal
+        self.target = TOP / record.place_of("proved", goal)
         self.rt = os.path.abspath(shutil.which(os.environ.get("RT") or "rt") or "rt")
-        self.below = record.crates_below(TOP)
+        self.below = record.crates_below(TOP, goal)
         self.sizes = {it: copies.bytes_in(TOP / "crates" / it, "out", "must-fail") for it in self.below}
         self.noted = noted_seconds()
         self.at_once = max(1, min(len(os.sched_getaffinity(0)), free_memory() // MEMORY))
@@ -177,13 +181,13 @@ class Build:
         self.running.remove(proof)
         # `rt run` ends with the program's own status, so its file tells whether it was built.
         is_program = proof.name == record.PROGRAM
-        is_made = os.access(PROGRAM, os.X_OK) if is_program else proof.process.returncode == 0
+        is_made = os.access(self.target, os.X_OK) if is_program else proof.process.returncode == 0
         if not is_made:
             with contextlib.suppress(OSError):
                 print(*proof.log.read_text("utf-8", "replace").splitlines()[-20:], sep="\n", file=sys.stderr)
         proof.keep()
         if not is_made:
-            raise Failed(f"trdpd wasn't built: {proof.name} failed; the whole text is in {proof.log}")
+            raise Failed(f"{self.goal} wasn't built: {proof.name} failed; the whole text is in {proof.log}")
         self.done.add(proof.name)
         self.order.done(proof.name)
         if (seconds := time.monotonic() - proof.start) >= LEAST:
@@ -228,34 +232,36 @@ class Build:
                     proof.keep()
 
 
-def main() -> int:
+def main(words: list[str]) -> int:
     signals: list[int] = []
     for number in (signal.SIGINT, signal.SIGTERM, signal.SIGHUP):
         # nohup makes a hangup ignored.
         if signal.getsignal(number) != signal.SIG_IGN:
             signal.signal(number, lambda it, _: signals.append(it))
-    found = record.current(TOP)
+    goal = words[0] if words else record.PROGRAM
+    target = TOP / record.place_of("proved", goal)
+    found = record.current(TOP, goal)
     if found and found[1].kind == "proved":
-        say(f"trdpd is proved and built: {PROGRAM}")
+        say(f"{goal} is proved and built: {target}")
         return 0
-    say("proving and building trdpd, once: about 30 minutes on four processors ..")
-    digest = record.digest_of(TOP, record.kit_line() or "")
+    say(f"proving and building {goal}, once: about {MINUTES[goal]} minutes on four processors ..")
+    digest = record.digest_of(TOP, record.kit_line() or "", goal)
     try:
-        PROGRAM.unlink(missing_ok=True)
-        record.record_place(PROGRAM).unlink(missing_ok=True)
+        target.unlink(missing_ok=True)
+        record.record_place(target).unlink(missing_ok=True)
         NOTES.mkdir(parents=True, exist_ok=True)
         with tempfile.TemporaryDirectory(prefix="trdpd-", ignore_cleanup_errors=True) as folder:
-            Build(pathlib.Path(folder)).prove(signals)
-        record.write(TOP, "proved", digest)
+            Build(pathlib.Path(folder), goal).prove(signals)
+        record.write(TOP, "proved", digest, goal)
     except KeyboardInterrupt:
         say("interrupted; what is proved is kept")
         return 130
     except (Failed, record.Mismatch, graphlib.CycleError, OSError) as why:
         say(f"{why}")
         return 4
-    say(f"proved and built: {PROGRAM}")
+    say(f"proved and built: {target}")
     return 0
 
 
 if __name__ == "__main__":
-    sys.exit(main())
+    sys.exit(main(sys.argv[1:]))

@@ -1,11 +1,12 @@
 #!/usr/bin/env python3
 """Which program is proved: a file beside each program says of which sources it was made, and what its own sum is.
 
-    package/record.py state                 prints `proved PATH`, `unproved PATH` or `none`: the program that runs here
-    package/record.py digest                prints the digest of all that a proof reads, as it is now
-    package/record.py write KIND DIGEST     notes that the program of that kind was made of the sources of that digest
+    package/record.py state [CRATE]               prints `proved PATH`, `unproved PATH` or `none`: the program that runs here
+    package/record.py digest [CRATE]              prints the digest of all that a proof reads, as it is now
+    package/record.py write KIND DIGEST [CRATE]   notes that the program of that kind was made of the sources of that digest
 
-KIND is `proved` or `unproved`. A record counts only if its digest is the digest of the tree as it is now and of the
+KIND is `proved` or `unproved`. CRATE is `trdpd`, the program, or `trdp_node`: the node's library for C is noted in the
+same way. A record counts only if its digest is the digest of the tree as it is now and of the
 logic that the record itself names, and its sum is the sum of the program as it is now. So a changed definition, a
 changed comment, another logic and a replaced program are not called proved, and a file that was only touched changes
 nothing. `write` notes nothing, with status 1, if the tree has another digest by now.
@@ -28,7 +29,10 @@ from typing import NamedTuple
 
 TOP = pathlib.Path(__file__).resolve().parent.parent
 PROGRAM = "trdpd"
-PLACES = {"proved": f"crates/{PROGRAM}/out/{PROGRAM}", "unproved": f"out/unproved/{PROGRAM}"}
+LIBRARY = "trdp_node"
+# What is made of each crate.
+MADE = {PROGRAM: PROGRAM, LIBRARY: f"lib{LIBRARY}.a"}
+KINDS = ("proved", "unproved")
 PARTS = ("src", "specs", "proofs")
 # The kit reads no other files there.
 SOURCES = (".rt", ".antt")
@@ -58,6 +62,11 @@ class Mismatch(Exception):
     """Why a record isn't written."""
 
 
+def place_of(kind: str, crate: str = PROGRAM) -> str:
+    """Where the program of a kind is, or the library, from the top of the tree."""
+    return f"crates/{crate}/out/{MADE[crate]}" if kind == "proved" else f"out/unproved/{MADE[crate]}"
+
+
 def logic_of(kit: str) -> str:
     """The logic of a kit, from the line that `rt version` prints."""
     return kit.rpartition(" ")[2]
@@ -83,10 +92,10 @@ def crates_below(top: pathlib.Path, crate: str = PROGRAM) -> dict[str, list[str]
     return found
 
 
-def files_read(top: pathlib.Path) -> Iterator[str]:
-    """The files that a proof of the program reads, as paths from the top. Plain text, since each start reads 1,300."""
+def files_read(top: pathlib.Path, crate: str = PROGRAM) -> Iterator[str]:
+    """The files that a proof of a crate reads, as paths from the top. Plain text, since each start reads 1,300."""
     yield from (it for it in ("HANDLES", "crates.txt") if (top / it).exists())
-    for name in crates_below(top):
+    for name in crates_below(top, crate):
         for part in PARTS:
             for folder, _, files in os.walk(top / "crates" / name / part):
                 inside = os.path.relpath(folder, top)
@@ -94,10 +103,10 @@ def files_read(top: pathlib.Path) -> Iterator[str]:
                 yield from (it for it in sources if os.path.isfile(f"{top}/{it}"))
 
 
-def digest_of(top: pathlib.Path, kit: str) -> str:
+def digest_of(top: pathlib.Path, kit: str, crate: str = PROGRAM) -> str:
     """The digest of all that a proof by that kit reads."""
     total = hashlib.sha256()
-    for path in sorted(files_read(top), key=lambda it: it.split("/")):
+    for path in sorted(files_read(top, crate), key=lambda it: it.split("/")):
         total.update(f"{sum_of(f'{top}/{path}')}  {path}\n".encode())
     total.update(f"{logic_of(kit)}  logic\n".encode())
     return total.hexdigest()
@@ -143,32 +152,34 @@ def read_record(program: pathlib.Path) -> Record | None:
         lines = record_place(program).read_text("utf-8").splitlines()
         found = dict(line.partition(" ")[::2] for line in lines)
         record = Record(*(found[key] for key in KEYS))
-        return record if os.access(program, os.X_OK) and sum_of(program) == record.program else None
+        # A library isn't run.
+        mode = os.R_OK if program.suffix == ".a" else os.X_OK
+        return record if os.access(program, mode) and sum_of(program) == record.program else None
     except (OSError, KeyError, UnicodeDecodeError):
         return None
 
 
-def current(top: pathlib.Path) -> tuple[pathlib.Path, Record] | None:
-    """The program that runs here, and its record: the proved one, if there is one of the tree as it is, and else the
-    one that was compiled of it without proof."""
+def current(top: pathlib.Path, crate: str = PROGRAM) -> tuple[pathlib.Path, Record] | None:
+    """The program that runs here, or the library, and its record: the proved one, if there is one of the tree as it is,
+    and else the one that was compiled of it without proof."""
     kit = kit_line()
-    for kind, place in PLACES.items():
-        program = top / place
+    for kind in KINDS:
+        program = top / place_of(kind, crate)
         record = read_record(program)
         if record is None or record.kind != kind or logic_of(kit or record.kit) != logic_of(record.kit):
             continue
-        if record.digest == digest_of(top, record.kit):
+        if record.digest == digest_of(top, record.kit, crate):
             return program, record
     return None
 
 
-def write(top: pathlib.Path, kind: str, digest: str) -> None:
+def write(top: pathlib.Path, kind: str, digest: str, crate: str = PROGRAM) -> None:
     """Notes what a program was made of. Raises Mismatch if the tree or the program isn't what it was."""
-    program = top / PLACES[kind]
+    program = top / place_of(kind, crate)
     kit = kit_line()
     if kit is None:
         raise Mismatch("the Rattle kit isn't there any more")
-    if digest_of(top, kit) != digest:
+    if digest_of(top, kit, crate) != digest:
         raise Mismatch("a source has changed meanwhile: begin again")
     record = Record(kind, digest, sum_of(program), kit, commit_of(top))
     part = record_place(program).with_suffix(".part")
@@ -177,20 +188,21 @@ def write(top: pathlib.Path, kind: str, digest: str) -> None:
 
 
 def main(words: list[str]) -> int:
+    crate = words.pop() if len(words) > 1 and words[-1] in MADE else PROGRAM
     match words:
         case ["state"]:
-            found = current(TOP)
+            found = current(TOP, crate)
             print(f"{found[1].kind} {found[0]}" if found else "none")
         case ["digest"]:
-            print(digest_of(TOP, kit_line() or ""))
-        case ["write", kind, digest] if kind in PLACES and re.fullmatch("[0-9a-f]{64}", digest):
+            print(digest_of(TOP, kit_line() or "", crate))
+        case ["write", kind, digest] if kind in KINDS and re.fullmatch("[0-9a-f]{64}", digest):
             try:
-                write(TOP, kind, digest)
+                write(TOP, kind, digest, crate)
             except (Mismatch, OSError) as why:
                 print(f"run: {why}", file=sys.stderr)
                 return 1
         case _:
-            print("usage: package/record.py state | digest | write KIND DIGEST", file=sys.stderr)
+            print("usage: package/record.py state [CRATE] | digest [CRATE] | write KIND DIGEST [CRATE]", file=sys.stderr)
             return 2
     return 0
 

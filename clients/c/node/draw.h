@@ -40,13 +40,20 @@ static inline void draw_bytes(struct draw *draw, struct text *to, uint32_t limit
     put_bytes(to, bytes, length);
 }
 
-/* The check of a header, as the standard has it. */
+/* The check of a header, as the standard has it, by half bytes. */
 static inline uint32_t header_check(const uint8_t *bytes, size_t length)
 {
+    static uint32_t table[16];
     uint32_t check = UINT32_MAX;
+    for (uint32_t i = 0; !table[15] && i < 16; i++) {
+        uint32_t part = i;
+        for (int bit = 0; bit < 4; bit++) part = part >> 1 ^ (part & 1 ? 0xedb88320u : 0);
+        table[i] = part;
+    }
     for (size_t i = 0; i < length; i++) {
         check ^= bytes[i];
-        for (int bit = 0; bit < 8; bit++) check = check >> 1 ^ (check & 1 ? 0xedb88320u : 0);
+        check = check >> 4 ^ table[check & 15];
+        check = check >> 4 ^ table[check & 15];
     }
     return ~check;
 }

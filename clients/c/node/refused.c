@@ -95,6 +95,8 @@ int main(int count, char **words)
     }
     printf("refused: %lu allocations, one refused in each of %lu runs: %lu nodes, %lu lines, %lu events, %lu texts\n", asks,
            runs, opens, turns.refusals.line, turns.refusals.step, turns.refusals.text);
+    free(wanted.at);
+    free(turns.found.at);
     printf("refused: 1 passed, 0 failed\n");
     return 0;
 }

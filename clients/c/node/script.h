@@ -260,11 +260,15 @@ static inline void put_number(struct text *to, int64_t number)
 static inline void put_bytes(struct text *to, const uint8_t *bytes, size_t length)
 {
     static const char digits[] = "0123456789abcdef";
+    char *at;
     put(to, length ? " " : " -");
+    if (length > (to->room - to->length) / 2) stop("the text is too long");
+    at = to->at + to->length;
     for (size_t i = 0; i < length; i++) {
-        add(to, digits + (bytes[i] >> 4), 1);
-        add(to, digits + (bytes[i] & 15), 1);
+        *at++ = digits[bytes[i] >> 4];
+        *at++ = digits[bytes[i] & 15];
     }
+    to->length += 2 * length;
 }
 
 static inline void put_uri(struct text *to, const uint8_t *uri)
