@@ -22,7 +22,7 @@ TOP = pathlib.Path(__file__).resolve().parent.parent
 COPIED = (".ci/run", ".ci/quick", ".ci/stages", ".ci/gate_record.py", "package/record.py", "docs/tools/gate",
           "docs/tools/gate_lines.py")
 STAGES = (".ci/slips", "examples/play", "rows/play", "rows/forms", "examples/lossy/play", "bench/checks",
-          "clients/check", "docs/tools/play_tutorial")
+          "clients/check", "clients/c/node/check", "docs/tools/play_tutorial")
 # A stage prints what it plays. It fails, or skips a tool, if a file says so.
 STAGE = """#!/bin/sh
 echo "$0 ${TRDPD-}$*"
@@ -31,6 +31,7 @@ if [ "$0" = rows/play ] && [ -e "$SCRATCH/fails" ]; then exit 1; fi
 echo "it: 3 passed, 0 failed"
 """
 RUN = """#!/bin/sh
+if [ "$*" = "build library" ]; then exit; fi
 digest=$(package/record.py digest)
 mkdir -p out/unproved
 printf 'one\\n' > out/unproved/trdpd
@@ -38,6 +39,7 @@ chmod +x out/unproved/trdpd
 package/record.py write unproved "$digest"
 """
 RT = """#!/bin/sh
+if [ "$1" = lib ]; then mkdir -p out && echo a library > out/libtrdp_node.a && exit; fi
 mkdir -p crates/trdpd/out
 printf 'two\\n' > crates/trdpd/out/trdpd
 chmod +x crates/trdpd/out/trdpd
@@ -56,8 +58,9 @@ top = pathlib.Path(__file__).resolve().parents[2]
 (top / "docs/TRACE.md").write_text(f"One.\\n\\n{gate_lines.page_lines(gate_lines.last_run(top))}\\n\\nTwo.\\n")
 """
 TREE = {
-    "HANDLES": "Handles allowed: Net.\n", "crates.txt": "low:\ntrdpd: low\n", ".gitignore": "out/\n__pycache__/\n",
+    "HANDLES": "Handles allowed: Net.\n", "crates.txt": "low:\ntrdpd: low\ntrdp_node: low\n", ".gitignore": "out/\n__pycache__/\n",
     "crates/low/src/lib.rt": "fn low() {}\n", "crates/trdpd/src/main.rt": "fn main() {}\n",
+    "crates/trdp_node/src/lib.rt": "fn node() {}\n",
     "README.md": "A page.\n <!-- docs/tools/gate writes this line -->\n",
 }
 SCRIPTS = {**dict.fromkeys(STAGES, STAGE), "run": RUN, "docs/tools/trace": TRACE}
@@ -122,7 +125,7 @@ class Gate(unittest.TestCase):
         commit = self.said("git", "rev-parse", "HEAD")[0][:12]
         self.assertIn("No whole run of CI is recorded yet.", (self.top / "README.md").read_text())
         lines = self.said(".ci/run")
-        self.assertRegex(lines[-1], "^gate: 9 stages, 0 failed, [0-9]+ minutes$")
+        self.assertRegex(lines[-1], "^gate: 10 stages, 0 failed, [0-9]+ minutes$")
         self.assertIn(f"rows/play {self.top}/crates/trdpd/out/trdpd", lines)
         found = self.record()
         kit = "made-up-kit logic 0123456789abcdef"
@@ -144,7 +147,7 @@ class Gate(unittest.TestCase):
         for path in ("untracked", "../skips", "../fails"):
             self.write(path, "")
         status, lines = self.run_words(".ci/run")
-        self.assertEqual((status, lines[-1][:25]), (1, "gate: 9 stages, 1 failed,"))
+        self.assertEqual((status, lines[-1][:26]), (1, "gate: 10 stages, 1 failed,"))
         self.assertEqual(self.record()["lacks"], ["the checkout was not clean", "the stage rows FAILED",
                                                   "something was skipped: clients: 1 skipped: tshark"])
         status, lines = self.run_words("docs/tools/gate", "--take")
@@ -160,7 +163,7 @@ class Gate(unittest.TestCase):
 
     def test_quick_plays_the_program_without_a_proof(self) -> None:
         lines = self.said(".ci/quick")
-        self.assertRegex(lines[-1], "^quick: 7 stages, 0 failed, [0-9]+ minutes$")
+        self.assertRegex(lines[-1], "^quick: 8 stages, 0 failed, [0-9]+ minutes$")
         for stage in ("rows/play ", "clients/check ", "docs/tools/play_tutorial "):
             self.assertIn(f"{stage}{self.top}/out/unproved/trdpd", lines)
 

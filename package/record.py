@@ -1,9 +1,9 @@
 #!/usr/bin/env python3
 """Which program is proved: a file beside each program says of which sources it was made, and what its own sum is.
 
-    package/record.py state [CRATE]               prints `proved PATH`, `unproved PATH` or `none`: the program that runs here
-    package/record.py digest [CRATE]              prints the digest of all that a proof reads, as it is now
-    package/record.py write KIND DIGEST [CRATE]   notes that the program of that kind was made of the sources of that digest
+    package/record.py state [CRATE]              prints `proved PATH`, `unproved PATH` or `none`: what runs here
+    package/record.py digest [CRATE]             prints the digest of all that a proof reads, as it is now
+    package/record.py write KIND DIGEST [CRATE]  notes that the program of that kind was made of these sources
 
 KIND is `proved` or `unproved`. CRATE is `trdpd`, the program, or `trdp_node`: the node's library for C is noted in the
 same way. A record counts only if its digest is the digest of the tree as it is now and of the
@@ -202,7 +202,8 @@ def main(words: list[str]) -> int:
                 print(f"run: {why}", file=sys.stderr)
                 return 1
         case _:
-            print("usage: package/record.py state [CRATE] | digest [CRATE] | write KIND DIGEST [CRATE]", file=sys.stderr)
+            usage = "state [CRATE] | digest [CRATE] | write KIND DIGEST [CRATE]"
+            print(f"usage: package/record.py {usage}", file=sys.stderr)
             return 2
     return 0
 

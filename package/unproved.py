@@ -70,7 +70,7 @@ def write_script(path: pathlib.Path, text: str) -> None:
 
 
 def make_kit(kit: pathlib.Path, copy: pathlib.Path, kept: pathlib.Path, clang: str = CLANG) -> None:
-    """Makes the folder of links to the kit, whose linker keeps the first program at that path, with a script as clang."""
+    """Makes the folder of links to the kit, whose linker keeps the first program at that path; clang is a script."""
     link_all(kit, copy, "bin", "toolchain")
     link_all(kit / "bin", copy / "bin", "rt", "rtlib.py", "rattle")
     # `rt` finds the rest of its kit beside its own file. `rattle` would look for hints meanwhile, for a minute.
