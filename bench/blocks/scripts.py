@@ -74,6 +74,11 @@ def view(figures: Figures) -> str:
             f"and {short(figures['end_mb'])} MB at the end, {lost} lost")
 
 
+def library(figures: Figures) -> str:
+    rows = figures["rows"]
+    return ", ".join(f"{name} {rows[f'{name}, ns']} ns" for name in ("put", "pd", "line"))
+
+
 def control_lines(figures: Figures) -> str:
     rows = [it for it in figures["lines"] if it["unanswered"] == 64]
     return ", ".join(f"{it['port']} {short(it['us'])} µs" for it in rows)
@@ -107,6 +112,7 @@ SCRIPTS = (
            "the kit, rustc, zlib", "frame_check", frame_check),
     Script("How many instructions does a line of a script take?", "bench/instructions.py", "3", "valgrind",
            "instructions", instructions),
+    Script("What does the node cost as a library in C?", "bench/library.py", "0.2", "gcc, valgrind", "library", library),
     Script("What does `trdp-view` cost at 5,000 telegrams a second, and does it lose any?", "bench/view.py", "10", "",
            "view", view),
     Script("Does the program need more than another program?", "bench/compare.py OTHER", "10", "rustc, valgrind"),
