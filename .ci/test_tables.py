@@ -60,6 +60,7 @@ MADE_UP: dict[str, dict[str, Any]] = {
                                          for it in HEADS]},
     "frame_check": {"rows": [{"bytes": size, "body": body, "ns": 15.0} for size in (36, 1472)
                              for body in ("proved", "eight tables", "zlib")]},
+    "library": {"rows": {"put, ns": 117, "pd, ns": 231, "line, ns": 294}},
     "view": {"sent": 3_000_000, "counted": 2_999_990, "dropped": 10, "processor": 0.161, "half_mb": 97.1,
              "end_mb": 97.4},
     "proof": {"minutes": 28.8, "processor_minutes": 65.1, "processors": 4},

@@ -20,6 +20,7 @@ import subprocess
 import tempfile
 
 import results
+import record  # results finds it
 
 TOP = results.TOP
 CALLS = 10000
@@ -70,14 +71,14 @@ def measured(library: pathlib.Path) -> dict[str, int]:
 
 def main() -> None:
     parser = results.arguments(__doc__)
-    default = TOP / results.record.place_of("proved", results.record.LIBRARY)
+    default = TOP / record.place_of("proved", record.LIBRARY)
     parser.add_argument("library", nargs="?", type=pathlib.Path, default=default)
     given = parser.parse_args()
     rows = measured(given.library)
     for name, number in rows.items():
         print(f"{name:40}{number:10,}")
     if given.save:
-        known = results.record.current(TOP, results.record.LIBRARY)
+        known = record.current(TOP, record.LIBRARY)
         is_proved = known is not None and known[1].kind == "proved" and known[0] == given.library.resolve()
         results.save("library", {"rows": rows}, proved=is_proved)
 
