@@ -39,7 +39,8 @@ COMPLETE = """\
 COMP_WORDS=(trdpd daemon x --l); COMP_CWORD=3; _trdpd; echo "${COMPREPLY[*]}"
 COMP_WORDS=(trdpd s); COMP_CWORD=1; _trdpd; echo "${COMPREPLY[*]}"
 """
-WORDS = ("build", "prove", "run", "check", "daemon", "serve", "package", "help", "--version", "--help")
+WORDS = ("build", "prove", "build", "prove", "run", "check", "daemon", "serve", "package", "help", "--version",
+         "--help")
 # What is changed in a file of a copy, and why it isn't packed then.
 REFUSED = (
     ("crates/trdpd/src/version.rt", "pub const", "const", "crates/trdpd/src/version.rt names no version"),

@@ -13,15 +13,17 @@ AR_MAGIC = b"!<arch>\n"
 # How hard the archives are packed: the next levels take three times as long, and save a tenth.
 GZIP_LEVEL, XZ_LEVEL = 6, 3
 # The mode of a folder and of a program, and that of any other file.
-PROGRAM_MODE, FILE_MODE = 0o755, 0o644
+PROGRAM_MODE, FILE_MODE, LINK_MODE = 0o755, 0o644, 0o777
 
 
 class File(NamedTuple):
-    """A file of the package: its path from the root, what is in it, and whether it is run."""
+    """A file of the package: its path from the root, what is in it, and whether it is run. A link has the path to which
+    it leads, and nothing in it."""
 
     path: str
     content: bytes
     is_program: bool = False
+    target: str = ""
 
 
 def zipped(content: bytes, level: int = 9) -> bytes:
@@ -51,7 +53,10 @@ def tar(files: list[File], top: str, moment: int) -> bytes:
         for path, file in sorted(found.items()):
             mode = FILE_MODE if file and not file.is_program else PROGRAM_MODE
             head = entry(f"{top}/{path}".rstrip("/"), mode, moment)
-            if file:
+            if file and file.target:
+                head.type, head.linkname, head.mode = tarfile.SYMTYPE, file.target, LINK_MODE
+                archive.addfile(head)
+            elif file:
                 head.size = len(file.content)
                 archive.addfile(head, io.BytesIO(file.content))
             else:
@@ -76,7 +81,7 @@ def ar(members: dict[str, bytes], moment: int) -> bytes:
 
 def sums(files: list[File]) -> str:
     """The check sums by which dpkg notices a file that was changed."""
-    return "".join(f"{hashlib.md5(file.content).hexdigest()}  {file.path}\n" for file in files)
+    return "".join(f"{hashlib.md5(file.content).hexdigest()}  {file.path}\n" for file in files if not file.target)
 
 
 def deb(files: list[File], control: list[File], moment: int) -> bytes:

@@ -24,7 +24,7 @@ NUMBER = 1
 VERSIONS = f"TRDP_NODE_{NUMBER} {{ global: trdp_node_raw_*; trdp_node_layout*; local: *; }};\n"
 # -z text refuses text that would have to be changed when the library is loaded.
 FLAGS = ["-std=c99", "-O2", "-fPIC", "-shared", "-Wl,-z,text", "-Wl,-z,relro", "-Wl,-z,now", "-Wl,--no-undefined",
-         "-Wl,--gc-sections", "-Wl,--build-id=none", f"-Wl,-soname,{NAME}.{NUMBER}"]
+         "-Wl,--gc-sections", "-Wl,-s", "-Wl,--build-id=none", f"-Wl,-soname,{NAME}.{NUMBER}"]
 
 
 class NotMade(Exception):
