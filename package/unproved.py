@@ -47,14 +47,6 @@ class NoProgram(Exception):
     """Why nothing was compiled."""
 
 
-def find_kit() -> pathlib.Path:
-    """The folder of the kit."""
-    found = shutil.which(os.environ.get("RT") or "rt")
-    if found is None:
-        raise NoProgram("the Rattle kit's command rt must be on PATH, or its path in RT")
-    return pathlib.Path(found).resolve().parent.parent
-
-
 def link_all(source: pathlib.Path, target: pathlib.Path, *but: str) -> None:
     """Makes a folder of links to what is in another one, except for these names."""
     target.mkdir()
