@@ -8,9 +8,8 @@ Prints, over a node of one slot with eight objects,
   of 20 rounds of 100,000 calls;
 - how many instructions the put and the telegram take, counted by valgrind, and how many of them are outside of
   `Node::step` and of what empties the list of records: those are the price of the call from C;
-- the bytes of the library's code, and those of memory and stack that a node takes at most: to open, and for calls.
-
-The stack has in it what a thread and the test itself take.
+- the bytes of the library's code, and those of memory that a node takes at most to open;
+- the bytes of stack that calls of each kind take; `record` is with the calls that tell of the state and the text.
 """
 from __future__ import annotations
 
