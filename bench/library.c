@@ -1,6 +1,7 @@
 /* Calls of the node's library in a loop, for bench/library.py.
  *
  *     library ns            prints how long one call of each kind takes, in nanoseconds: the least of 20 rounds
+ *     library records       prints how long the function that gets a record takes, after a moment with 4,096 records
  *     library put COUNT     makes that many calls of one kind, for callgrind
  *     library pd COUNT
  *     library stack         prints how many bytes of stack the calls of each kind take at most
@@ -14,7 +15,7 @@
 #include <string.h>
 #include <time.h>
 
-enum { ROUNDS = 20, CALLS = 100000, STACK = 1 << 20, PAINT = 0x5a };
+enum { ROUNDS = 20, CALLS = 100000, STACK = 1 << 20, PAINT = 0x5a, SLOTS = 16, OBJECTS = 256 };
 
 size_t pool_most(void);
 
@@ -82,22 +83,53 @@ static void next_telegram(unsigned long i)
     } else memcpy(telegram, kept[i & 1], sizeof telegram);
 }
 
+static double nanoseconds(const struct timespec *from)
+{
+    struct timespec to;
+    clock_gettime(CLOCK_MONOTONIC, &to);
+    return (double)(to.tv_sec - from->tv_sec) * 1e9 + (double)(to.tv_nsec - from->tv_nsec);
+}
+
 static double least_ns(void (*call)(void), int has_telegram)
 {
     double least = 1e9;
     for (int round = 0; round < ROUNDS; round++) {
-        struct timespec from, to;
+        struct timespec from;
         double ns;
         clock_gettime(CLOCK_MONOTONIC, &from);
         for (unsigned long i = 0; i < CALLS; i++) {
             if (has_telegram) next_telegram(i);
             call();
         }
-        clock_gettime(CLOCK_MONOTONIC, &to);
-        ns = ((double)(to.tv_sec - from.tv_sec) * 1e9 + (double)(to.tv_nsec - from.tv_nsec)) / CALLS;
+        ns = nanoseconds(&from) / CALLS;
         if (ns < least) least = ns;
     }
     return least;
+}
+
+/* How long a record takes, if the publishers of all slots are due. */
+static double record_ns(void)
+{
+    static char most[1024] = "[node]\naddress = \"10.0.0.1\"\n";
+    struct trdp_node_event publish = { .what = TRDP_NODE_PUBLISH, .time = 1000 }, given = put;
+    struct trdp_node_event due = { .what = TRDP_NODE_MOMENT, .moment = 1000 };
+    struct trdp_node_record record;
+    struct trdp_node_fault fault;
+    struct trdp_node_done done;
+    struct timespec from;
+    size_t count = 0;
+    for (int i = 0; i < SLOTS; i++) strcat(most, "[[slot]]\npublishers = 256\n");
+    if (trdp_node_open(&node, most, strlen(most), &fault) != TRDP_NODE_OK) stop(fault.text);
+    for (given.handle = 1; given.handle <= OBJECTS; given.handle++)
+        for (given.slot = publish.slot = 0; given.slot < SLOTS; publish.slot = ++given.slot) {
+            trdp_node_step(&node, &publish, NULL, 0, &done);
+            trdp_node_step(&node, &given, value, sizeof value, &done);
+        }
+    trdp_node_step(&node, &due, NULL, 0, &done);
+    clock_gettime(CLOCK_MONOTONIC, &from);
+    while (trdp_node_record(&node, count, &record) == TRDP_NODE_OK) count++;
+    if (count != SLOTS * OBJECTS) stop("not all are due");
+    return nanoseconds(&from) / (double)count;
 }
 
 static void open_node(void)
@@ -203,6 +235,10 @@ int main(int count, char **words)
         struct trdp_node_fault fault;
         if (trdp_node_open(&node, config, sizeof config - 1, &fault) != TRDP_NODE_OK) stop(fault.text);
         printf("most %lu\n", (unsigned long)pool_most());
+        return 0;
+    }
+    if (!strcmp(word, "records")) {
+        printf("record %.0f\n", record_ns());
         return 0;
     }
     open_node();

@@ -5,7 +5,7 @@
 
 Prints, over a node of one slot with eight objects,
 - how many nanoseconds a put of two bytes, a telegram that a subscription accepts, and a put as a line take: the least
-  of 20 rounds of 100,000 calls;
+  of 20 rounds of 100,000 calls; and a record, if a moment has 4,096;
 - how many instructions the put and the telegram take, counted by valgrind, and how many of them are outside of
   `Node::step` and of what empties the list of records: those are the price of the call from C;
 - the bytes of the library's code, and those of memory that a node takes at most to open;
@@ -56,8 +56,9 @@ def measured(library: pathlib.Path) -> dict[str, int]:
     with tempfile.TemporaryDirectory() as name:
         folder = pathlib.Path(name)
         program = folder / "library"
-        said("gcc", "-std=gnu99", "-O2", "-pthread", "-o", program, *SOURCES, library)
-        found = {f"{kind}, ns": number for kind, number in numbers(said(program, "ns")).items()}
+        said("gcc", "-std=gnu99", "-O2", "-pthread", "-DPOOL_BYTES=67108864", "-o", program, *SOURCES, library)
+        times = numbers(said(program, "ns")) | numbers(said(program, "records"))
+        found = {f"{kind}, ns": number for kind, number in times.items()}
         for kind in ("put", "pd"):
             whole, price = instructions(program, kind, folder)
             found |= {f"{kind}, instructions": whole, f"{kind}, instructions of the call from C": price}
