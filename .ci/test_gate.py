@@ -58,7 +58,8 @@ top = pathlib.Path(__file__).resolve().parents[2]
 (top / "docs/TRACE.md").write_text(f"One.\\n\\n{gate_lines.page_lines(gate_lines.last_run(top))}\\n\\nTwo.\\n")
 """
 TREE = {
-    "HANDLES": "Handles allowed: Net.\n", "crates.txt": "low:\ntrdpd: low\ntrdp_node: low\n", ".gitignore": "out/\n__pycache__/\n",
+    "HANDLES": "Handles allowed: Net.\n", "crates.txt": "low:\ntrdpd: low\ntrdp_node: low\n",
+    ".gitignore": "out/\n__pycache__/\n",
     "crates/low/src/lib.rt": "fn low() {}\n", "crates/trdpd/src/main.rt": "fn main() {}\n",
     "crates/trdp_node/src/lib.rt": "fn node() {}\n",
     "README.md": "A page.\n <!-- docs/tools/gate writes this line -->\n",
