@@ -2,7 +2,7 @@
 #ifndef DRAW_H
 #define DRAW_H
 
-#include "script.h"
+#include "records.h"
 
 /* Where the random numbers have come to; the slot of the line, and the latest handles of some slots. */
 struct draw {

@@ -1,7 +1,7 @@
 /* Plays a script as `trdpd run CONFIG` does, through the library: its output, error stream and status are the same.
  * With -DNUMBERS the events go in as structs, and the records are printed from structs; a second node tells by lines
  * whether a line can be read, and what its text is. */
-#include "script.h"
+#include "records.h"
 
 static char config[1 << 22];
 static char script[1 << 24];

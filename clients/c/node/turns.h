@@ -2,7 +2,7 @@
 #ifndef TURNS_H
 #define TURNS_H
 
-#include "script.h"
+#include "records.h"
 
 /* How often there was no memory, and for what. */
 struct refusals {
