@@ -9,7 +9,7 @@ use Rattle.std.proofs.lemmas.List.{append-nil}
 use Rattle.trdp_lines.specs.Connections.{ConnectionCall, TellsMore}
 use Rattle.trdp_lines.specs.Conversations.{ConversationState}
 use Rattle.trdp_lines.specs.Comings.{ComesNext, HaveCome}
-use Rattle.trdp_lines.specs.OperatorPaths.{AreOver, has_seat, is_of}
+use Rattle.trdp_lines.specs.OperatorPaths.{HaveLeft, has_seat, is_of}
 use Rattle.trdp_lines.specs.Paths.{speaks}
 use Rattle.trdp_lines.specs.Said.{connections_in}
 use Rattle.trdp_lines.specs.Seats.{AreSeated, GoesOnIfTold, KeepSeats}
@@ -108,14 +108,14 @@ comes_then one two three came came_then last seats seats_then comes goes same =
       )
     ]
 
--- one that had a seat, and has none after calls by which all goes on, is over
-pub over_then : (calls calls_then : Option (List ConnectionCall))
+-- one that had a seat, and has none after calls by which all goes on, has left
+pub left_then : (calls calls_then : Option (List ConnectionCall))
     (seats mid seats_then : List ConversationState) → KeepSeats seats mid
-    → GoesOnIfTold calls calls_then mid seats_then → AreOver calls_then seats seats_then
-over_then calls None seats mid seats_then keep goes = tt
-over_then None (Some calls_then) seats mid seats_then keep goes = absurd goes
-over_then (Some calls) (Some calls_then) seats mid seats_then keep goes = λ n some none.
-    goes.over n (keep n some) none
+    → GoesOnIfTold calls calls_then mid seats_then → HaveLeft calls_then seats seats_then
+left_then calls None seats mid seats_then keep goes = tt
+left_then None (Some calls_then) seats mid seats_then keep goes = absurd goes
+left_then (Some calls) (Some calls_then) seats mid seats_then keep goes = λ n some none.
+    goes.left n (keep n some) none
 
 -- all keep their seats where a free one changes
 pub keep_seats : (seats : List ConversationState) (place : ℕ) (c c_then : ConversationState)

@@ -5,17 +5,21 @@ use Rattle.std.proofs.Common.{◌≡◌, ℕ, ◌+◌, ◌≤◌, ◌==◌, ◌|
 use Rattle.std.proofs.Common.{Bool, true, false, Option, Some, None, refl, ap, sym, subst, ◌∙◌}
 use Rattle.std.proofs.Common.{IfSome, inl, inr, arith}
 use Rattle.std.specs.Prelude.{is_some}
-use Rattle.std.proofs.lemmas.Bool.{eq-eqb, ne_eqb, or_from, or_parts}
+use Rattle.std.proofs.lemmas.Bool.{eq-eqb, eqb-true, ne_eqb, or_cases, or_from, or_left, or_parts}
+use Rattle.std.proofs.lemmas.Bool.{or_right}
 use Rattle.trdp_lines.specs.declared.connections.Accepted.TheVariants.{Came}
-use Rattle.trdp_lines.specs.Connections.{ConnectionCall, Accepts, TellsMore}
+use Rattle.trdp_lines.specs.Closings.{AreOpenIfTold, was_closed}
+use Rattle.trdp_lines.specs.Connections.{ConnectionCall, Accepts, Closes, TellsMore, Writes}
 use Rattle.trdp_lines.specs.Comings.{ComesNext}
 use Rattle.trdp_lines.specs.ControlPaths.{AreServed, IsControlPath, Places, Proceeds}
 use Rattle.trdp_lines.specs.ControlPaths.{ProceedsIfTold, has_place}
 use Rattle.trdp_lines.specs.Conversations.{ConversationState, conversation_of}
-use Rattle.trdp_lines.specs.Paths.{IsTrueIfTold, speaks}
+use Rattle.trdp_lines.specs.Paths.{IsTrueIfTold, IsTrueOf, speaks}
+use Rattle.trdp_lines.specs.Seats.{IsRefused}
 use Rattle.trdp_lines.proofs.CallLemmas.{accept_unheard}
+use Rattle.trdp_lines.proofs.ClosingLemmas.{open_kept, open_next}
 use Rattle.trdp_lines.proofs.GoingOnLemmas.{left_true, never_both}
-use Rattle.trdp_lines.proofs.PlaceLemmas.{at, or_right, proceeds_next}
+use Rattle.trdp_lines.proofs.PlaceLemmas.{at, proceeds_next, waits_behind}
 use Rattle.trdp_lines.proofs.SeatLemmas.{number_of_same}
 use Rattle.trdp_lines.proofs.TurnLemmas.{unheard_by}
 
@@ -31,62 +35,147 @@ pub low_at : (number : Option ℕ) (n came : ℕ) → number ≡ Some n → IfSo
 low_at number n came is low = subst (λ (o : Option ℕ). IfSome o (λ m. m ≤ came)) is low
 
 -- where the one that speaks stays that of its connection
-pub path_kept : (calls calls_then : Option (List ConnectionCall)) (c c_then : ConversationState)
-    (waiting : Option ℕ) (came : ℕ) → c_then.number ≡ c.number
+pub path_kept : (calls calls_then : Option (List ConnectionCall)) (more : List ConnectionCall)
+    (c c_then : ConversationState) (waiting : Option ℕ) (came : ℕ) → c_then.number ≡ c.number
+    → ((n : ℕ) → was_closed n more ≡ false) → TellsMore calls calls_then more
     → IsControlPath calls c waiting came → IsTrueIfTold calls_then c_then waiting came
     → IsControlPath calls_then c_then waiting came
-path_kept calls calls_then c c_then waiting came same path known = record {
+path_kept calls calls_then more c c_then waiting came same unclosed told path known = record {
   speaker_came = subst (λ (o : Option ℕ). IfSome o (λ n. n ≤ came)) (sym same) path.speaker_came;
   waiting_came = path.waiting_came;
+  present = open_kept calls calls_then more (λ n. speaks c.number n || speaks waiting n)
+      (λ n. speaks c_then.number n || speaks waiting n) came came told (omega arith)
+      (λ n some. (
+        unclosed n,
+        ap (λ (o : Option ℕ). speaks o n || speaks waiting n) (sym same) ∙ some,
+      )) (λ n above. unclosed n) path.present;
   known = known;
 }
+
+-- the one that waits is another than the one that speaks
+other_waits : (calls : List ConnectionCall) (n k : ℕ) (c : ConversationState)
+    (waiting : Option ℕ) (came : ℕ) → c.number ≡ Some n → speaks waiting k ≡ true
+    → IsTrueOf calls c.number c waiting came → n == k ≡ false
+other_waits calls n k c waiting came number waits known =
+    let behind = waits_behind calls n k c waiting came (number_of_same waiting k waits)
+    (subst (λ (o : Option ℕ). IsTrueOf calls o c waiting came) number known) in
+    ne_eqb n k (λ same. omega (arith, behind, same))
+
+-- where the one that speaks was closed all others stay open
+closed_open : (calls calls_then : Option (List ConnectionCall)) (n : ℕ) (c : ConversationState)
+    (waiting : Option ℕ) (came : ℕ) → c.number ≡ Some n
+    → TellsMore calls calls_then (Closes n ∷ []) → IsControlPath calls c waiting came
+    → AreOpenIfTold calls_then (λ k. speaks waiting k || false) came
+closed_open calls None n c waiting came number told path = tt
+closed_open None (Some calls_then) n c waiting came number told path = absurd told
+closed_open (Some calls) (Some calls_then) n c waiting came number told path =
+    let low = low_at c.number n came number path.speaker_came in
+    open_kept (Some calls) (Some calls_then) (Closes n ∷ [])
+    (λ k. speaks c.number k || speaks waiting k) (λ k. speaks waiting k || false) came came told
+    (omega arith) (λ k some.
+    let waits = left_true (speaks waiting k) some in (
+      or_from (n == k) false (other_waits calls n k c waiting came number waits path.known) refl,
+      or_right (speaks c.number k) (speaks waiting k) waits,
+    )) (λ k above. or_from (n == k) false (ne_eqb n k (λ same. omega (arith, low, above, same)))
+    refl) path.present
+
+-- where the one that waits was refused the one that speaks stays
+refused_open : (calls calls_then : Option (List ConnectionCall)) (n next : ℕ)
+    (c : ConversationState) (waiting : Option ℕ) (came : ℕ) → c.number ≡ Some n
+    → waiting ≡ Some next → IsRefused next calls calls_then → IsControlPath calls c waiting came
+    → AreOpenIfTold calls_then (λ k. speaks c.number k || false) came
+refused_open calls None n next c waiting came number waits refused path = tt
+refused_open None (Some calls_then) n next c waiting came number waits refused path =
+    absurd refused.told
+refused_open (Some calls) (Some calls_then) n next c waiting came number waits refused path =
+    let low = low_at waiting next came waits path.waiting_came in
+    let behind = waits_behind calls n next c waiting came waits
+    (subst (λ (o : Option ℕ). IsTrueOf calls o c waiting came) number path.known) in
+    open_kept (Some calls) (Some calls_then) (Writes next refused.writing ∷ Closes next ∷ [])
+    (λ k. speaks c.number k || speaks waiting k) (λ k. speaks c.number k || false) came came
+    refused.told (omega arith) (λ k some.
+    let talks = left_true (speaks c.number k) some in
+    let here : Some n ≡ Some k = sym number ∙ number_of_same c.number k talks in
+    let same : n ≡ k = cc in (
+      or_from (next == k) false (ne_eqb next k (λ is. omega (arith, behind, same, is))) refl,
+      or_left (speaks c.number k) (speaks waiting k) talks,
+    )) (λ k above. or_from (next == k) false (ne_eqb next k (λ same.
+    omega (arith, low, above, same))) refl) path.present
 
 -- where the one that waits speaks then
-pub path_begun : (calls calls_then : Option (List ConnectionCall)) (c begun : ConversationState)
-    (waiting waiting_then : Option ℕ) (came : ℕ) → begun ≡ conversation_of waiting
-    → waiting_then ≡ None → IsControlPath calls c waiting came
+pub path_begun : (calls calls_then : Option (List ConnectionCall)) (n : ℕ)
+    (c begun : ConversationState) (waiting waiting_then : Option ℕ) (came : ℕ)
+    → c.number ≡ Some n → begun ≡ conversation_of waiting → waiting_then ≡ None
+    → TellsMore calls calls_then (Closes n ∷ []) → IsControlPath calls c waiting came
     → IsTrueIfTold calls_then begun waiting_then came
     → IsControlPath calls_then begun waiting_then came
-path_begun calls calls_then c begun waiting waiting_then came begins none path known = record {
-  speaker_came = subst (λ (s : ConversationState). IfSome s.number (λ n. n ≤ came)) (sym begins)
-      path.waiting_came;
-  waiting_came = subst (λ (o : Option ℕ). IfSome o (λ n. n ≤ came)) (sym none) tt;
-  known = known;
-}
+path_begun calls calls_then n c begun waiting waiting_then came number begins none told path known =
+    record {
+      speaker_came = subst (λ (s : ConversationState). IfSome s.number (λ n. n ≤ came)) (sym begins)
+          path.waiting_came;
+      waiting_came = subst (λ (o : Option ℕ). IfSome o (λ n. n ≤ came)) (sym none) tt;
+      present = subst (λ (s : ConversationState).
+          AreOpenIfTold calls_then (λ k. speaks s.number k || speaks waiting_then k) came)
+          (sym begins) (subst (λ (o : Option ℕ).
+          AreOpenIfTold calls_then (λ k. speaks waiting k || speaks o k) came) (sym none)
+          (closed_open calls calls_then n c waiting came number told path));
+      known = known;
+    }
 
--- where the one that waits is gone
-pub path_unwaited : (calls calls_then : Option (List ConnectionCall)) (c : ConversationState)
-    (waiting waiting_then : Option ℕ) (came : ℕ) → waiting_then ≡ None
+-- where the one that waits was refused
+pub path_refused : (calls calls_then : Option (List ConnectionCall)) (n next : ℕ)
+    (c : ConversationState) (waiting waiting_then : Option ℕ) (came : ℕ) → c.number ≡ Some n
+    → waiting ≡ Some next → waiting_then ≡ None → IsRefused next calls calls_then
     → IsControlPath calls c waiting came → IsTrueIfTold calls_then c waiting_then came
     → IsControlPath calls_then c waiting_then came
-path_unwaited calls calls_then c waiting waiting_then came none path known = record {
-  speaker_came = path.speaker_came;
-  waiting_came = subst (λ (o : Option ℕ). IfSome o (λ n. n ≤ came)) (sym none) tt;
-  known = known;
-}
+path_refused calls calls_then n next c waiting waiting_then came number waits none refused path
+    known = record {
+      speaker_came = path.speaker_came;
+      waiting_came = subst (λ (o : Option ℕ). IfSome o (λ n. n ≤ came)) (sym none) tt;
+      present = subst (λ (o : Option ℕ).
+          AreOpenIfTold calls_then (λ k. speaks c.number k || speaks o k) came) (sym none)
+          (refused_open calls calls_then n next c waiting came number waits refused path);
+      known = known;
+    }
 
 -- where the next connection came, and speaks
 pub path_first : (calls calls_then : Option (List ConnectionCall)) (c begun : ConversationState)
     (waiting : Option ℕ) (came : ℕ) → begun ≡ conversation_of (Some (came + 1))
+    → TellsMore calls calls_then (Accepts (came + 1) Came ∷ [])
     → IsControlPath calls c waiting came → IsTrueIfTold calls_then begun waiting (came + 1)
     → IsControlPath calls_then begun waiting (came + 1)
-path_first calls calls_then c begun waiting came begins path known =
+path_first calls calls_then c begun waiting came begins told path known =
     let last : came + 1 ≤ came + 1 = omega arith in
     record {
       speaker_came = subst (λ (s : ConversationState). IfSome s.number (λ n. n ≤ came + 1))
           (sym begins) last;
       waiting_came = low_more waiting came path.waiting_came;
+      present = subst (λ (s : ConversationState).
+          AreOpenIfTold calls_then (λ n. speaks s.number n || speaks waiting n) (came + 1))
+          (sym begins) (open_next calls calls_then
+          (λ n. speaks c.number n || speaks waiting n) (λ n. came + 1 == n || speaks waiting n) came
+          told (λ n some. elim (or_cases (came + 1 == n) (speaks waiting n) some) [
+            | inl next ↦ inr (eqb-true (came + 1) n next)
+            | inr waits ↦ inl (or_right (speaks c.number n) (speaks waiting n) waits)
+          ]) path.present);
       known = known;
     }
 
 -- where the next connection came, and waits
 pub path_behind : (calls calls_then : Option (List ConnectionCall)) (c : ConversationState)
-    (waiting : Option ℕ) (came : ℕ) → IsControlPath calls c waiting came
+    (waiting : Option ℕ) (came : ℕ) → TellsMore calls calls_then (Accepts (came + 1) Came ∷ [])
+    → IsControlPath calls c waiting came
     → IsTrueIfTold calls_then c (Some (came + 1)) (came + 1)
     → IsControlPath calls_then c (Some (came + 1)) (came + 1)
-path_behind calls calls_then c waiting came path known = record {
+path_behind calls calls_then c waiting came told path known = record {
   speaker_came = low_more c.number came path.speaker_came;
   waiting_came = omega arith;
+  present = open_next calls calls_then (λ n. speaks c.number n || speaks waiting n)
+      (λ n. speaks c.number n || came + 1 == n) came told
+      (λ n some. elim (or_cases (speaks c.number n) (came + 1 == n) some) [
+        | inl talks ↦ inl (or_left (speaks c.number n) (speaks waiting n) talks)
+        | inr next ↦ inr (eqb-true (came + 1) n next)
+      ]) path.present;
   known = known;
 }
 

@@ -180,9 +180,10 @@ silent_past c silent none = and_left (c.spoke || has_line c.bytes) (not (is_done
 pub more_written : (n : ℕ) (step : OutgoingStep) (old : ConversationState) (out : OutgoingState)
     (new : ConversationState) (calls calls_then : Option (List ConnectionCall))
     → out ≡ after_step old.outgoing step → taken_in old.outgoing step ≡ []
+    → ((after_step old.outgoing step).waiting ≡ [] → old.outgoing.waiting ≡ [])
     → HasWritten n [] (record old { outgoing = out }) new calls calls_then
     → HasWritten n (texts_in step) old new calls calls_then
-more_written n step old out new calls calls_then is none written =
+more_written n step old out new calls calls_then is none grows written =
     let later = subst (λ (o : OutgoingState).
     HasWritten n [] (record old { outgoing = o }) new calls calls_then) is written in
     record {
@@ -194,4 +195,5 @@ more_written n step old out new calls calls_then is none written =
       took = later.took
           ∙ ap (λ (l : List ℕ). l ++ taken (after_step old.outgoing step) later.steps) (sym none);
       written = later.written;
+      tried = λ unwritten. (grows (later.tried unwritten).0, (later.tried unwritten).1);
     }

@@ -5,12 +5,12 @@
 use Rattle.std.proofs.Common.{◌≡◌, ℕ, ◌+◌, ◌≤◌, ◌++◌, ◌≢◌, List, [], ◌∷◌}
 use Rattle.std.proofs.Common.{Option, Some, refl, sym, subst}
 use Rattle.std.proofs.Common.{◌∙◌, arith}
+use Rattle.trdp_lines.specs.Closings.{IsUnheard}
 use Rattle.trdp_lines.specs.Connections.{ConnectionCall}
 use Rattle.trdp_lines.specs.Conversations.{ConversationState, conversation_of}
 use Rattle.trdp_lines.specs.OperatorPaths.{free_seat}
 use Rattle.trdp_lines.specs.Paths.{IsUnreadFrom}
 use Rattle.trdp_lines.specs.Seats.{AreHeard, AreSeated, AreTrueOf, HasTurn, IsHeardIf}
-use Rattle.trdp_lines.specs.Seats.{IsUnheard}
 use Rattle.trdp_lines.proofs.SeatLemmas.{Changes, heard_back, heard_both, heard_front}
 use Rattle.trdp_lines.proofs.SeatLemmas.{seats_kept}
 use Rattle.trdp_lines.proofs.SeatedLemmas.{alone, seated_other}

@@ -3,6 +3,7 @@ pub mod IntakeLemmas
 pub mod OutgoingLemmas
 pub mod IntakeRunLemmas
 pub mod CallLemmas
+pub mod ClosingLemmas
 pub mod ConversationLemmas
 pub mod HandingLemmas
 pub mod PathLemmas
@@ -27,3 +28,4 @@ pub mod AskingLemmas
 pub mod HearingLemmas
 pub mod ListeningLemmas
 pub mod WritingLemmas
+pub mod TakeLemmas

@@ -1,8 +1,8 @@
 -- The next line of all seats of a path, which are asked in two rounds.
 -- For the path of the operator's port.
 -- By: whether a line was found; where none was, each seat was asked in one of the rounds.
-use Rattle.std.proofs.Common.{◌≡◌, ℕ, ◌<◌, ◌≤◌, List, [], ◌∷◌, Option, Some, None, length, inl, inr}
-use Rattle.std.proofs.Common.{IfNone, arith}
+use Rattle.std.proofs.Common.{◌≡◌, ℕ, ◌<◌, ◌≤◌, ◌⊎◌, List, [], ◌∷◌, Option, Some, None, length}
+use Rattle.std.proofs.Common.{IfNone, arith, inl, inr}
 use Rattle.std.specs.List.{filter}
 use Rattle.std.proofs.lemmas.Bool.{cases_lt}
 use Rattle.std.specs.Prelude.{◌==◌}
@@ -54,3 +54,7 @@ none_found seats seats_then first None behind before stay four = nothing_left se
       | inr high ↦ stay k (behind k high within)
     ])
 none_found seats seats_then first (Some found) behind before stay four = tt
+
+-- where none is asked yet, the place is the first
+pub order_first : (first last : ℕ) → ((first ≤ first) ⊎ (first ≤ last))
+order_first first last = inl (omega arith)

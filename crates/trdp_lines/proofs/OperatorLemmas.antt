@@ -2,16 +2,19 @@
 -- For the path of the operator's port.
 -- By: cases on which calls are reported; what holds of those that are.
 use Rattle.std.proofs.Common.{◌≡◌, ℕ, ◌<◌, ◌≤◌, List, [], ◌∷◌, Option, Some, None}
-use Rattle.std.proofs.Common.{length, set, get_or, ap, sym, subst, ◌∙◌, option_map}
+use Rattle.std.proofs.Common.{length, set, get_or, ap, sym, subst, ◌∙◌, option_map, arith}
 use Rattle.std.proofs.lemmas.List.{length-set, get_or-set_other, get_or-set_same, get_or_read}
+use Rattle.trdp_lines.specs.Closings.{AreOpenIfTold}
 use Rattle.trdp_lines.specs.Connections.{ConnectionCall}
 use Rattle.trdp_lines.specs.Conversations.{ConversationState}
 use Rattle.trdp_lines.specs.Lines.{IsUnended}
-use Rattle.trdp_lines.specs.OperatorPaths.{free_seat, seat_at}
+use Rattle.trdp_lines.specs.OperatorPaths.{free_seat, has_seat, seat_at}
 use Rattle.trdp_lines.specs.OperatorPaths.{HandsInLines, HandsInFound}
 use Rattle.trdp_lines.specs.Said.{said_by}
 use Rattle.trdp_lines.specs.Seats.{AreSeated, AreTrueIfTold, HandsInIf, HasTurnIfTold}
-use Rattle.trdp_lines.specs.Seats.{IsPath, KeepsOthers}
+use Rattle.trdp_lines.specs.Seats.{IsPath, KeepTaken, KeepsOthers}
+use Rattle.trdp_lines.proofs.ClosingLemmas.{open_kept}
+use Rattle.trdp_lines.proofs.GoingOnLemmas.{same_seats}
 use Rattle.trdp_lines.proofs.KnownLemmas.{known_turn}
 use Rattle.trdp_lines.proofs.LeftLemmas.{hands_in_turn}
 use Rattle.trdp_lines.proofs.SeatLemmas.{Changes, changes_at}
@@ -48,6 +51,15 @@ pub others_kept : (seats : List ConversationState) (place : ℕ) (c : Conversati
     → KeepsOthers place seats (set seats place c)
 others_kept seats place c = λ k other. get_or-set_other seats place k c free_seat other
 
+-- each seat that is taken is kept where a free one is set
+pub taken_kept : (seats : List ConversationState) (place : ℕ) (c : ConversationState)
+    → (seat_at seats place).number ≡ None → KeepTaken seats (set seats place c)
+taken_kept seats place c free = λ k n some.
+    others_kept seats place c k (λ same.
+    let never : None ≡ Some n = sym free
+    ∙ ap (λ (p : ℕ). (seat_at seats p).number) (sym same) ∙ some in
+    cc)
+
 -- what is known after a turn, by calls that may not be reported
 known_turn_told : (calls calls_then : Option (List ConnectionCall))
     (seats seats_then : List ConversationState) (c c_then : ConversationState) (n came : ℕ)
@@ -66,6 +78,26 @@ known_turn_told (Some calls) (Some calls_then) seats seats_then c c_then n came 
     known_turn calls calls_then seats seats_then c c_then n came lines changes number number_then
     turn seated known
 
+-- the same connections are there after a turn, by calls that may not be reported
+open_turn_told : (calls calls_then : Option (List ConnectionCall))
+    (seats seats_then : List ConversationState) (c c_then : ConversationState) (n came : ℕ)
+    (lines : List (List ℕ)) → Changes seats seats_then c c_then → c_then.number ≡ c.number
+    → HasTurnIfTold n calls calls_then c c_then lines
+    → AreOpenIfTold calls (λ k. has_seat k seats) came
+    → AreOpenIfTold calls_then (λ k. has_seat k seats_then) came
+open_turn_told None None seats seats_then c c_then n came lines changes kept turn all = tt
+open_turn_told None (Some calls_then) seats seats_then c c_then n came lines changes kept turn
+    present = absurd turn
+open_turn_told (Some calls) None seats seats_then c c_then n came lines changes kept turn all = tt
+open_turn_told (Some calls) (Some calls_then) seats seats_then c c_then n came lines changes kept
+    turn all =
+    open_kept (Some calls) (Some calls_then) turn.more (λ k. has_seat k seats)
+    (λ k. has_seat k seats_then) came came turn.told (omega arith)
+    (λ k some. (
+      turn.unclosed k,
+      sym (same_seats k seats seats_then c c_then changes kept) ∙ some,
+    )) (λ k above. turn.unclosed k) all
+
 -- a path after the turn of the connection at a place
 pub path_turn : (calls calls_then : Option (List ConnectionCall))
     (seats : List ConversationState) (place : ℕ) (c c_then : ConversationState)
@@ -80,6 +112,8 @@ path_turn calls calls_then seats place c c_then n came next next_then lines with
       within = path.within;
       seated = seated_turn seats (set seats place c_then) c c_then came
           (changes_at seats place c c_then within here) kept path.seated;
+      present = open_turn_told calls calls_then seats (set seats place c_then) c c_then n came lines
+          (changes_at seats place c c_then within here) kept turn path.present;
       known = known_turn_told calls calls_then seats (set seats place c_then) c c_then n came lines
           (changes_at seats place c c_then within here) number (kept ∙ number) turn path.seated
           path.known;

@@ -25,7 +25,7 @@ abbrev GoesFrom : List ℕ → ℕ → List (List ℕ) → OutgoingState → Typ
 GoesFrom bytes lost texts state = (untold : List (List ℕ)) → length untold ≡ state.lost
     → Goes bytes state.waiting lost (untold ++ texts)
 
-told_is : (can : Bool) (state : OutgoingState) → can_tell state ≡ can
+pub told_is : (can : Bool) (state : OutgoingState) → can_tell state ≡ can
     → lost_told state ≡ (if can
     then record { waiting = state.waiting ++ lost_line state.lost; lost = 0 }
     else state)
@@ -63,7 +63,7 @@ told_less true state is = omega (arith, ap (λ (s : OutgoingState). s.lost) (tol
 told_less false state is =
     omega (arith, ap (λ (s : OutgoingState). s.lost) (told_is false state is))
 
-text_is : (takes : Bool) (state : OutgoingState) (text : List ℕ) → takes_text state text ≡ takes
+pub text_is : (takes : Bool) (state : OutgoingState) (text : List ℕ) → takes_text state text ≡ takes
     → with_text state text ≡ (if takes
     then with_bytes state text
     else record state { lost = min (state.lost + 1) lost_limit })

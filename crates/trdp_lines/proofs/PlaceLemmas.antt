@@ -3,20 +3,23 @@
 -- By: whether a connection has a place between them; one without a place isn't read from.
 use Rattle.std.proofs.Common.{◌≡◌, ℕ, ◌<◌, ◌≤◌, ◌==◌, ◌||◌, ◌++◌, ◌⊎◌, List, [], ◌∷◌}
 use Rattle.std.proofs.Common.{Bool, true, false, Option, Some, None, refl, ap, sym, subst, ◌∙◌}
-use Rattle.std.proofs.Common.{append_assoc, inl, inr, arith}
-use Rattle.std.proofs.lemmas.Bool.{or_from, or_parts, cases_lt}
+use Rattle.std.proofs.Common.{append_assoc, inl, inr, arith, not}
+use Rattle.std.proofs.lemmas.Bool.{and_from, cases_lt, eq-eqb, or_from, or_left, or_parts}
+use Rattle.std.proofs.lemmas.Bool.{or_right}
+use Rattle.trdp_lines.specs.Closings.{FindsNothing, FoundNothing, HasLeft, IsUnheard}
 use Rattle.trdp_lines.specs.Connections.{ConnectionCall, Closes, Reads, Writes, TellsMore}
-use Rattle.trdp_lines.specs.ControlPaths.{GaveWay, IsServed, Places, Proceeds}
+use Rattle.trdp_lines.specs.ControlPaths.{GaveWay, IsBesideLiving, IsControlPath, IsServed, Places}
+use Rattle.trdp_lines.specs.ControlPaths.{Proceeds}
 use Rattle.trdp_lines.specs.ControlPaths.{ProceedsIfTold, has_place}
 use Rattle.trdp_lines.specs.Conversations.{ConversationState, HasRead, conversation_of, is_done}
 use Rattle.trdp_lines.specs.Lines.{has_line}
-use Rattle.trdp_lines.specs.Paths.{IsHeard, IsTrueIfTold, IsTrueOf, speaks}
-use Rattle.trdp_lines.specs.Said.{is_over}
-use Rattle.trdp_lines.specs.Seats.{IsRefused, IsUnheard}
+use Rattle.trdp_lines.specs.Paths.{IsTrueIfTold, IsTrueOf, speaks}
+use Rattle.trdp_lines.specs.Seats.{IsRefused}
 use Rattle.trdp_lines.proofs.CallLemmas.{AreUnheard, close_quiet}
 use Rattle.trdp_lines.proofs.CallLemmas.{read_alike, refuse_quiet}
-use Rattle.trdp_lines.proofs.ConversationLemmas.{line_in_parts}
-use Rattle.trdp_lines.proofs.GoingOnLemmas.{done_over, left_true, never_both, over_kept}
+use Rattle.trdp_lines.proofs.ClosingLemmas.{left_kept}
+use Rattle.trdp_lines.proofs.ConversationLemmas.{line_in_parts, lives_heard}
+use Rattle.trdp_lines.proofs.GoingOnLemmas.{done_over, left_true, never_both}
 use Rattle.trdp_lines.proofs.HandingLemmas.{tells_nothing}
 use Rattle.trdp_lines.proofs.PathLemmas.{speaker_of}
 use Rattle.trdp_lines.proofs.SeatLemmas.{number_of_same}
@@ -26,11 +29,6 @@ use Rattle.trdp_lines.proofs.TurnLemmas.{unheard_by}
 abbrev pub at : Option ℕ → Option ℕ → ℕ → Places
 at number waiting came = record { speaking = number; waiting = waiting; came = came }
 
--- of two tests of which the second is true one is true
-pub or_right : (x y : Bool) → y ≡ true → (x || y) ≡ true
-or_right true y same = refl
-or_right false y same = same
-
 -- a connection that wasn't read from stays what it was, where it has no place
 served_kept : (n : ℕ) (calls calls_then more : List ConnectionCall) (places places_then : Places)
     → calls_then ≡ calls ++ more → IsUnheard calls calls_then n → has_place n places ≡ false
@@ -38,23 +36,36 @@ served_kept : (n : ℕ) (calls calls_then more : List ConnectionCall) (places pl
 served_kept n calls calls_then more places places_then told unheard none served = elim served [
   | inl some ↦ never_both (has_place n places) some none
   | inr rest ↦ elim rest [
-    | inl over ↦ inr (inl (over_kept calls calls_then n unheard ∙ over))
+    | inl left ↦ inr (inl (left_kept n calls calls_then more told unheard left))
     | inr last ↦ elim last [
       | inl way ↦ inr (inr (inl (record {
         before = way.before;
         behind = way.behind ++ more;
-        silent = ap has_line unheard.bytes ∙ way.silent;
+        silent = way.silent;
+        asked = way.asked;
+        successor = way.successor;
+        later = way.later;
+        there = way.there;
         told = told ∙ ap (λ (calls : List ConnectionCall). calls ++ more) way.told
             ∙ append_assoc way.before (Closes n ∷ way.behind) more;
+        unread = record {
+          bytes = unheard.bytes ∙ way.unread.bytes;
+          ended = unheard.ended ∙ way.unread.ended;
+        };
       })))
-      | inr was ↦ inr (inr (inr (record {
-        before = was.before;
-        behind = was.behind ++ more;
-        writing = was.writing;
-        busy = was.busy;
-        told = told ∙ ap (λ (calls : List ConnectionCall). calls ++ more) was.told
-            ∙ append_assoc was.before (Writes n was.writing ∷ Closes n ∷ was.behind) more;
-      })))
+      | inr busy ↦
+          let was = busy.refused in
+          inr (inr (inr (record {
+            refused = record {
+              before = was.before;
+              behind = was.behind ++ more;
+              writing = was.writing;
+              busy = was.busy;
+              told = told ∙ ap (λ (calls : List ConnectionCall). calls ++ more) was.told
+                  ∙ append_assoc was.before (Writes n was.writing ∷ Closes n ∷ was.behind) more;
+            };
+            beside = busy.beside;
+          })))
     ]
   ]
 ]
@@ -169,11 +180,19 @@ proceeds_read (Some calls) (Some calls_then) n c c_then waiting came number read
     subst (λ (told : List ConnectionCall). IsUnheard calls told k) (sym read.told)
     (record { bytes = alike.bytes; ended = alike.ended })))
 
+-- what becomes of one that is closed
+abbrev Fate : ℕ → List ConnectionCall → Type 0
+Fate n calls = HasLeft n calls ⊎ GaveWay n calls
+
+-- the same of calls that may not be reported
+abbrev pub FateIfTold : ℕ → Option (List ConnectionCall) → Type 0
+FateIfTold n None = Unit {0}
+FateIfTold n (Some calls) = Fate n calls
+
 -- one that spoke or waited, where the one that spoke was closed
 closed_served : (waits : Bool) (calls_then : List ConnectionCall) (n k : ℕ)
     (number waiting : Option ℕ) (came : ℕ) → number ≡ Some n → speaks waiting k ≡ waits
-    → ((is_over n calls_then ≡ true) ⊎ GaveWay n calls_then)
-    → (speaks number k || speaks waiting k) ≡ true
+    → Fate n calls_then → (speaks number k || speaks waiting k) ≡ true
     → IsServed k (Some calls_then) (at waiting None came)
 closed_served true calls_then n k number waiting came speaker waits fate some =
     inl (ap (λ (b : Bool). b || false) waits)
@@ -183,37 +202,39 @@ closed_served false calls_then n k number waiting came speaker waits fate some =
     let here : Some n ≡ Some k = sym speaker ∙ number_of_same number k mine in
     let same : n ≡ k = cc in
     subst (λ (m : ℕ). IsServed m (Some calls_then) (at waiting None came)) same (elim fate [
-      | inl over ↦ inr (inl over)
+      | inl left ↦ inr (inl left)
       | inr way ↦ inr (inr (inl way))
     ])
 
 -- one that spoke or waited, where the one that waited was refused
 refused_served : (talks : Bool) (calls calls_then : List ConnectionCall) (next k : ℕ)
     (number waiting : Option ℕ) (came : ℕ) → waiting ≡ Some next → speaks number k ≡ talks
-    → IsRefused next (Some calls) (Some calls_then)
+    → IsBesideLiving next calls → IsRefused next (Some calls) (Some calls_then)
     → (speaks number k || speaks waiting k) ≡ true
     → IsServed k (Some calls_then) (at number None came)
-refused_served true calls calls_then next k number waiting came waits talks refused some =
+refused_served true calls calls_then next k number waiting came waits talks beside refused some =
     inl (ap (λ (b : Bool). b || false) talks)
-refused_served false calls calls_then next k number waiting came waits talks refused some =
+refused_served false calls calls_then next k number waiting came waits talks beside refused some =
     let mine : speaks waiting k ≡ true =
     ap (λ (b : Bool). b || speaks waiting k) (sym talks) ∙ some in
     let here : Some next ≡ Some k = sym waits ∙ number_of_same waiting k mine in
     let same : next ≡ k = cc in
     subst (λ (m : ℕ). IsServed m (Some calls_then) (at number None came)) same
     (inr (inr (inr (record {
-      before = calls;
-      behind = [];
-      writing = refused.writing;
-      busy = refused.busy;
-      told = refused.told;
+      refused = record {
+        before = calls;
+        behind = [];
+        writing = refused.writing;
+        busy = refused.busy;
+        told = refused.told;
+      };
+      beside = beside;
     }))))
 
 -- the one that speaks was closed, over or silent, and the one that waits speaks then
 proceeding_closed : (calls calls_then : List ConnectionCall) (n : ℕ)
     (number waiting : Option ℕ) (came : ℕ) → number ≡ Some n
-    → calls_then ≡ calls ++ Closes n ∷ []
-    → ((is_over n calls_then ≡ true) ⊎ GaveWay n calls_then)
+    → calls_then ≡ calls ++ Closes n ∷ [] → Fate n calls_then
     → Proceeds calls calls_then (at number waiting came) (at waiting None came)
 proceeding_closed calls calls_then n number waiting came speaker told fate = record {
   more = Closes n ∷ [];
@@ -229,61 +250,121 @@ proceeding_closed calls calls_then n number waiting came speaker told fate = rec
   next = λ k high low. absurd (omega (arith, high, low));
 }
 
--- the one that speaks has said no line, and is silent
-silent_way : (calls calls_then : List ConnectionCall) (n : ℕ) (c : ConversationState)
-    → calls_then ≡ calls ++ Closes n ∷ [] → IsHeard calls n c → c.spoke ≡ false
-    → has_line c.bytes ≡ false → GaveWay n calls_then
-silent_way calls calls_then n c told heard mute unended = record {
-  before = calls;
-  behind = [];
-  silent = ap has_line (unheard_by calls calls_then (Closes n ∷ []) (close_quiet n).unheard told
-      n).bytes ∙ ap has_line heard.bytes ∙ line_in_parts heard.before c.bytes
-      ∙ or_from (has_line heard.before) (has_line c.bytes) (heard.spoke ∙ mute) unended;
-  told = told;
-}
-
--- what becomes of one that is closed
-closed_fate : (calls calls_then : List ConnectionCall) (n : ℕ) (c : ConversationState)
-    → calls_then ≡ calls ++ Closes n ∷ [] → IsHeard calls n c
-    → ((is_done c ≡ true) ⊎ ((c.spoke ≡ false) × (has_line c.bytes ≡ false)))
-    → ((is_over n calls_then ≡ true) ⊎ GaveWay n calls_then)
-closed_fate calls calls_then n c told heard why = elim why [
-  | inl done ↦ inl (over_kept calls calls_then n
-      (unheard_by calls calls_then (Closes n ∷ []) (close_quiet n).unheard told n)
-      ∙ done_over calls n c heard done)
-  | inr mute ↦ inr (silent_way calls calls_then n c told heard mute.0 mute.1)
-]
-
 -- the same of calls that may not be reported, by the names of what is there then
 pub proceeds_closed : (calls calls_then : Option (List ConnectionCall)) (n : ℕ)
     (c begun : ConversationState) (waiting waiting_then : Option ℕ) (came : ℕ)
     → c.number ≡ Some n → begun ≡ conversation_of waiting → waiting_then ≡ None
-    → ((is_done c ≡ true) ⊎ ((c.spoke ≡ false) × (has_line c.bytes ≡ false)))
-    → TellsMore calls calls_then (Closes n ∷ []) → IsTrueIfTold calls c waiting came
+    → TellsMore calls calls_then (Closes n ∷ []) → FateIfTold n calls_then
     → ProceedsIfTold calls calls_then (at c.number waiting came)
     (at begun.number waiting_then came)
-proceeds_closed None None n c begun waiting waiting_then came number begins none why told known =
-    tt
-proceeds_closed None (Some calls_then) n c begun waiting waiting_then came number begins none why
-    told known = absurd told
-proceeds_closed (Some calls) None n c begun waiting waiting_then came number begins none why told
-    known = tt
+proceeds_closed None None n c begun waiting waiting_then came number begins none told fate = tt
+proceeds_closed None (Some calls_then) n c begun waiting waiting_then came number begins none told
+    fate = absurd told
+proceeds_closed (Some calls) None n c begun waiting waiting_then came number begins none told
+    fate = tt
 proceeds_closed (Some calls) (Some calls_then) n c begun waiting waiting_then came number begins
-    none why told known =
-    let spoken : IsTrueOf calls (Some n) c waiting came =
-    subst (λ (o : Option ℕ). IsTrueOf calls o c waiting came) number known in
+    none told fate =
     subst (λ (s : ConversationState). Proceeds calls calls_then (at c.number waiting came)
     (at s.number waiting_then came)) (sym begins) (subst (λ (o : Option ℕ). Proceeds calls
     calls_then (at c.number waiting came) (at waiting o came)) (sym none)
-    (proceeding_closed calls calls_then n c.number waiting came number told
-    (closed_fate calls calls_then n c told (speaker_of calls n c waiting came spoken).heard why)))
+    (proceeding_closed calls calls_then n c.number waiting came number told fate))
+
+-- what is known of the one that speaks, by its number
+spoken_of : (calls : List ConnectionCall) (n : ℕ) (c : ConversationState) (waiting : Option ℕ)
+    (came : ℕ) → c.number ≡ Some n → IsTrueOf calls c.number c waiting came
+    → IsTrueOf calls (Some n) c waiting came
+spoken_of calls n c waiting came number known =
+    subst (λ (o : Option ℕ). IsTrueOf calls o c waiting came) number known
+
+-- one that is over has left where it was closed
+pub left_fate : (calls calls_then : Option (List ConnectionCall)) (n : ℕ) (c : ConversationState)
+    (waiting : Option ℕ) (came : ℕ) → c.number ≡ Some n → is_done c ≡ true
+    → TellsMore calls calls_then (Closes n ∷ []) → IsTrueIfTold calls c waiting came
+    → FateIfTold n calls_then
+left_fate None None n c waiting came number done told known = tt
+left_fate None (Some calls_then) n c waiting came number done told known = absurd told
+left_fate (Some calls) None n c waiting came number done told known = tt
+left_fate (Some calls) (Some calls_then) n c waiting came number done told known =
+    let spoken = spoken_of calls n c waiting came number known in
+    inl (record {
+      before = calls;
+      behind = [];
+      over = done_over calls n c (speaker_of calls n c waiting came spoken).heard done;
+      told = told;
+      unread = unheard_by calls calls_then (Closes n ∷ []) (close_quiet n).unheard told n;
+    })
+
+-- the one that waits came after the one that speaks
+pub waits_behind : (calls : List ConnectionCall) (n next : ℕ) (c : ConversationState)
+    (waiting : Option ℕ) (came : ℕ) → waiting ≡ Some next
+    → IsTrueOf calls (Some n) c waiting came → n < next
+waits_behind calls n next c None came waits known = cc
+waits_behind calls n next c (Some m) came waits known =
+    let same : m ≡ next = cc in
+    subst (λ (k : ℕ). n < k) same known.2.behind
+
+-- it has a place
+waits_placed : (next : ℕ) (number waiting : Option ℕ) → waiting ≡ Some next
+    → (speaks number next || speaks waiting next) ≡ true
+waits_placed next number waiting waits = or_right (speaks number next) (speaks waiting next)
+    (ap (λ (o : Option ℕ). speaks o next) waits ∙ eq-eqb next next refl)
+
+-- so has the one that speaks
+speaks_placed : (n : ℕ) (number waiting : Option ℕ) → number ≡ Some n
+    → (speaks number n || speaks waiting n) ≡ true
+speaks_placed n number waiting speaker = or_left (speaks number n) (speaks waiting n)
+    (ap (λ (o : Option ℕ). speaks o n) speaker ∙ eq-eqb n n refl)
+
+-- one that has said no line gave way where it was closed, if another one waits
+pub gave_fate : (calls calls_then : Option (List ConnectionCall)) (n next : ℕ)
+    (c : ConversationState) (waiting : Option ℕ) (came : ℕ) → c.number ≡ Some n
+    → waiting ≡ Some next → c.spoke ≡ false → has_line c.bytes ≡ false → FindsNothing n calls
+    → TellsMore calls calls_then (Closes n ∷ []) → IsControlPath calls c waiting came
+    → FateIfTold n calls_then
+gave_fate None None n next c waiting came number waits mute unended asked told path = tt
+gave_fate None (Some calls_then) n next c waiting came number waits mute unended asked told path =
+    absurd told
+gave_fate (Some calls) None n next c waiting came number waits mute unended asked told path = tt
+gave_fate (Some calls) (Some calls_then) n next c waiting came number waits mute unended asked told
+    path =
+    let spoken = spoken_of calls n c waiting came number path.known in
+    let heard = (speaker_of calls n c waiting came spoken).heard in
+    inr (record {
+      before = calls;
+      behind = [];
+      silent = ap has_line heard.bytes ∙ line_in_parts heard.before c.bytes
+          ∙ or_from (has_line heard.before) (has_line c.bytes) (heard.spoke ∙ mute) unended;
+      asked = asked;
+      successor = next;
+      later = waits_behind calls n next c waiting came waits spoken;
+      there = path.present.there next (waits_placed next c.number waiting waits);
+      told = told;
+      unread = unheard_by calls calls_then (Closes n ∷ []) (close_quiet n).unheard told n;
+    })
+
+-- one that speaks, has said a line and goes on lives, beside the one that waits
+beside_living : (calls : List ConnectionCall) (n next : ℕ) (c : ConversationState)
+    (waiting : Option ℕ) (came : ℕ) → c.number ≡ Some n → waiting ≡ Some next → c.spoke ≡ true
+    → is_done c ≡ false → FoundNothing n calls → IsControlPath (Some calls) c waiting came
+    → IsBesideLiving next calls
+beside_living calls n next c waiting came number waits spoke going asked path =
+    let spoken = spoken_of calls n c waiting came number path.known in
+    record {
+      speaker = n;
+      earlier = waits_behind calls n next c waiting came waits spoken;
+      living = lives_heard calls n c (speaker_of calls n c waiting came spoken).heard
+          ∙ and_from (c.spoke || has_line c.bytes) (not (is_done c))
+          (or_left c.spoke (has_line c.bytes) spoke) (ap not going);
+      there = path.present.there n (speaks_placed n c.number waiting number);
+      asked = asked;
+    }
 
 -- the one that waits was refused
 proceeding_refused : (calls calls_then : List ConnectionCall) (next : ℕ)
-    (number waiting : Option ℕ) (came : ℕ) → waiting ≡ Some next
+    (number waiting : Option ℕ) (came : ℕ) → waiting ≡ Some next → IsBesideLiving next calls
     → (refused : IsRefused next (Some calls) (Some calls_then))
     → Proceeds calls calls_then (at number waiting came) (at number None came)
-proceeding_refused calls calls_then next number waiting came waits refused = record {
+proceeding_refused calls calls_then next number waiting came waits beside refused = record {
   more = Writes next refused.writing ∷ Closes next ∷ [];
   told = refused.told;
   others = λ k low none.
@@ -294,24 +375,29 @@ proceeding_refused calls calls_then next number waiting came waits refused = rec
         unplaced = or_from (speaks number k) false parts.0 refl;
       };
   served = λ k low some. refused_served (speaks number k) calls calls_then next k number waiting
-      came waits refl refused some;
+      came waits refl beside refused some;
   next = λ k high low. absurd (omega (arith, high, low));
 }
 
 -- the same of calls that may not be reported
-pub proceeds_refused : (calls calls_then : Option (List ConnectionCall)) (next : ℕ)
-    (number waiting waiting_then : Option ℕ) (came : ℕ) → waiting ≡ Some next
-    → waiting_then ≡ None → IsRefused next calls calls_then
-    → ProceedsIfTold calls calls_then (at number waiting came) (at number waiting_then came)
-proceeds_refused None None next number waiting waiting_then came waits none refused = tt
-proceeds_refused None (Some calls_then) next number waiting waiting_then came waits none refused =
-    absurd refused.told
-proceeds_refused (Some calls) None next number waiting waiting_then came waits none refused = tt
-proceeds_refused (Some calls) (Some calls_then) next number waiting waiting_then came waits none
-    refused =
-    subst (λ (o : Option ℕ). Proceeds calls calls_then (at number waiting came)
-    (at number o came)) (sym none)
-    (proceeding_refused calls calls_then next number waiting came waits refused)
+pub proceeds_refused : (calls calls_then : Option (List ConnectionCall)) (n next : ℕ)
+    (c : ConversationState) (waiting waiting_then : Option ℕ) (came : ℕ) → c.number ≡ Some n
+    → waiting ≡ Some next → waiting_then ≡ None → c.spoke ≡ true → is_done c ≡ false
+    → FindsNothing n calls → IsControlPath calls c waiting came
+    → IsRefused next calls calls_then
+    → ProceedsIfTold calls calls_then (at c.number waiting came) (at c.number waiting_then came)
+proceeds_refused None None n next c waiting waiting_then came number waits none spoke going asked
+    path refused = tt
+proceeds_refused None (Some calls_then) n next c waiting waiting_then came number waits none spoke
+    going asked path refused = absurd refused.told
+proceeds_refused (Some calls) None n next c waiting waiting_then came number waits none spoke going
+    asked path refused = tt
+proceeds_refused (Some calls) (Some calls_then) n next c waiting waiting_then came number waits
+    none spoke going asked path refused =
+    subst (λ (o : Option ℕ). Proceeds calls calls_then (at c.number waiting came)
+    (at c.number o came)) (sym none)
+    (proceeding_refused calls calls_then next c.number waiting came waits
+    (beside_living calls n next c waiting came number waits spoke going asked path) refused)
 
 -- where none waits, and nothing was asked
 pub proceeds_unwaited : (calls : Option (List ConnectionCall))

@@ -7,13 +7,14 @@ use Rattle.std.proofs.Common.{drop, set, get_or, refl, ap, sym, ◌∙◌, arith
 use Rattle.std.proofs.lemmas.Bool.{eq-eqb, eqb-true, true≢false}
 use Rattle.std.proofs.lemmas.List.{append-nil, set_split, set-get_or}
 use Rattle.std.proofs.lemmas.List.Concat.{flat_map-append}
+use Rattle.trdp_lines.specs.Closings.{IsUnheard}
 use Rattle.trdp_lines.specs.Connections.{ConnectionCall}
 use Rattle.trdp_lines.specs.Conversations.{ConversationState}
 use Rattle.trdp_lines.specs.OperatorPaths.{is_of, left_at_seat, left_in, seat_at}
 use Rattle.trdp_lines.specs.OperatorPaths.{NothingLeft}
 use Rattle.trdp_lines.specs.Paths.{speaks}
 use Rattle.trdp_lines.specs.Said.{Said}
-use Rattle.trdp_lines.specs.Seats.{seats_of, IsHeardIf, AreHeard, IsUnheard, IsSilentAt}
+use Rattle.trdp_lines.specs.Seats.{seats_of, IsHeardIf, AreHeard, IsSilentAt}
 use Rattle.trdp_lines.proofs.TurnLemmas.{heard_kept}
 
 -- one seat changes, from the second of these states to the third, with others around it

@@ -1,4 +1,4 @@
--- A connection that came: it has a seat, is over, or was refused.
+-- A connection that came: it has a seat, has left, or was refused.
 -- For the path of the operator's port.
 -- By: whether it has a seat; what was reported stays reported.
 use Rattle.std.proofs.Common.{◌≡◌, ℕ, ◌<◌, ◌++◌, List, [], ◌∷◌, Bool, true, false, Option, Some}
@@ -7,32 +7,32 @@ use Rattle.std.proofs.Common.{subst}
 use Rattle.std.proofs.lemmas.Bool.{eq-eqb}
 use Rattle.std.proofs.lemmas.List.Folds.{list_any_at}
 use Rattle.std.proofs.lemmas.List.{get_or-set_same, length-set}
+use Rattle.trdp_lines.specs.Closings.{HasLeft}
 use Rattle.trdp_lines.specs.Connections.{ConnectionCall, Writes, Closes}
 use Rattle.trdp_lines.specs.Conversations.{ConversationState, conversation_of}
 use Rattle.trdp_lines.specs.Comings.{WasRefused}
-use Rattle.trdp_lines.specs.OperatorPaths.{IsServed, free_seat, has_seat, is_of}
-use Rattle.trdp_lines.specs.Said.{is_over}
+use Rattle.trdp_lines.specs.OperatorPaths.{AreTaken, IsServed, free_seat, has_seat, is_of}
 use Rattle.trdp_lines.specs.Seats.{GoesOn, GoesOnIfTold, IsRefused}
-use Rattle.trdp_lines.proofs.GoingOnLemmas.{over_kept}
+use Rattle.trdp_lines.proofs.ClosingLemmas.{left_kept}
 
--- one that has a seat has it still, or is over
+-- one that has a seat has it still, or has left
 seat_then : (has : Bool) (n : ℕ) (calls calls_then : List ConnectionCall)
-    (seats seats_then : List ConversationState) → has_seat n seats_then ≡ has
+    (first seats seats_then : List ConversationState) → has_seat n seats_then ≡ has
     → GoesOn calls calls_then seats seats_then → has_seat n seats ≡ true
-    → IsServed n (Some calls_then) seats_then
-seat_then true n calls calls_then seats seats_then then goes some = inl then
-seat_then false n calls calls_then seats seats_then then goes some =
-    inr (inl (goes.over n some then))
+    → IsServed n (Some calls_then) first seats_then
+seat_then true n calls calls_then first seats seats_then then goes some = inl then
+seat_then false n calls calls_then first seats seats_then then goes some =
+    inr (inl (goes.left n some then))
 
--- one that is over stays so
-over_then : (has : Bool) (n : ℕ) (calls calls_then : List ConnectionCall)
-    (seats seats_then : List ConversationState) → has_seat n seats ≡ has
-    → GoesOn calls calls_then seats seats_then → is_over n calls ≡ true
-    → IsServed n (Some calls_then) seats_then
-over_then true n calls calls_then seats seats_then was goes over =
-    seat_then (has_seat n seats_then) n calls calls_then seats seats_then refl goes was
-over_then false n calls calls_then seats seats_then was goes over =
-    inr (inl (over_kept calls calls_then n (goes.others n was).unheard ∙ over))
+-- one that has left has so still
+left_then : (has : Bool) (n : ℕ) (calls calls_then : List ConnectionCall)
+    (first seats seats_then : List ConversationState) → has_seat n seats ≡ has
+    → GoesOn calls calls_then seats seats_then → HasLeft n calls
+    → IsServed n (Some calls_then) first seats_then
+left_then true n calls calls_then first seats seats_then was goes left =
+    seat_then (has_seat n seats_then) n calls calls_then first seats seats_then refl goes was
+left_then false n calls calls_then first seats seats_then was goes left =
+    inr (inl (left_kept n calls calls_then goes.more goes.told (goes.others n was).unheard left))
 
 -- one that was refused stays so
 refused_then : (n : ℕ) (calls calls_then : List ConnectionCall)
@@ -49,39 +49,47 @@ refused_then n calls calls_then seats seats_then goes was = record {
 
 -- after calls by which all goes on
 pub served_then : (n : ℕ) (calls calls_then : Option (List ConnectionCall))
-    (seats seats_then : List ConversationState) → IsServed n calls seats
-    → GoesOnIfTold calls calls_then seats seats_then → IsServed n calls_then seats_then
-served_then n None None seats seats_then served goes = tt
-served_then n None (Some calls_then) seats seats_then served goes = absurd goes
-served_then n (Some calls) None seats seats_then served goes = tt
-served_then n (Some calls) (Some calls_then) seats seats_then served goes =
+    (first seats seats_then : List ConversationState) → IsServed n calls first seats
+    → GoesOnIfTold calls calls_then seats seats_then → IsServed n calls_then first seats_then
+served_then n None None first seats seats_then served goes = tt
+served_then n None (Some calls_then) first seats seats_then served goes = absurd goes
+served_then n (Some calls) None first seats seats_then served goes = tt
+served_then n (Some calls) (Some calls_then) first seats seats_then served goes =
     elim served [
-      | inl some ↦ seat_then (has_seat n seats_then) n calls calls_then seats seats_then refl goes
-          some
+      | inl some ↦ seat_then (has_seat n seats_then) n calls calls_then first seats seats_then refl
+          goes some
       | inr rest ↦ elim rest [
-        | inl over ↦ over_then (has_seat n seats) n calls calls_then seats seats_then refl goes over
-        | inr was ↦ inr (inr (refused_then n calls calls_then seats seats_then goes was))
+        | inl left ↦ left_then (has_seat n seats) n calls calls_then first seats seats_then refl
+            goes left
+        | inr was ↦ inr (inr (
+          was.0,
+          refused_then n calls calls_then seats seats_then goes was.1,
+        ))
       ]
     ]
 
 -- one that was refused just now
 pub served_refused : (n : ℕ) (calls calls_then : Option (List ConnectionCall))
-    (seats : List ConversationState) → IsRefused n calls calls_then → IsServed n calls_then seats
-served_refused n None None seats refused = tt
-served_refused n None (Some calls_then) seats refused = absurd refused.told
-served_refused n (Some calls) None seats refused = tt
-served_refused n (Some calls) (Some calls_then) seats refused = inr (inr (record {
-  before = calls;
-  behind = [];
-  writing = refused.writing;
-  busy = refused.busy;
-  told = refused.told;
-}))
+    (seats : List ConversationState) → AreTaken seats → IsRefused n calls calls_then
+    → IsServed n calls_then seats seats
+served_refused n None None seats taken refused = tt
+served_refused n None (Some calls_then) seats taken refused = absurd refused.told
+served_refused n (Some calls) None seats taken refused = tt
+served_refused n (Some calls) (Some calls_then) seats taken refused = inr (inr (
+  taken,
+  record {
+    before = calls;
+    behind = [];
+    writing = refused.writing;
+    busy = refused.busy;
+    told = refused.told;
+  },
+))
 
 -- one that got a seat just now
 pub served_seated : (n : ℕ) (calls : Option (List ConnectionCall))
     (seats : List ConversationState) (place : ℕ) → place < length seats
-    → IsServed n calls (set seats place (conversation_of (Some n)))
+    → IsServed n calls seats (set seats place (conversation_of (Some n)))
 served_seated n None seats place within = tt
 served_seated n (Some calls) seats place within =
     let seat = conversation_of (Some n) in
@@ -93,10 +101,10 @@ served_seated n (Some calls) seats place within =
 
 -- one that came, after calls by which all goes on
 pub comes_served : (first came last : ℕ) (calls calls_then : Option (List ConnectionCall))
-    (seats seats_then : List ConversationState) → (first < came → IsServed came calls seats)
-    → GoesOnIfTold calls calls_then seats seats_then → last ≡ came → first < last
-    → IsServed last calls_then seats_then
-comes_served first came last calls calls_then seats seats_then served goes same more =
+    (seats mid seats_then : List ConversationState) → (first < came → IsServed came calls seats mid)
+    → GoesOnIfTold calls calls_then mid seats_then → last ≡ came → first < last
+    → IsServed last calls_then seats seats_then
+comes_served first came last calls calls_then seats mid seats_then served goes same more =
     let came_more = subst (λ (n : ℕ). first < n) same more in
-    subst (λ (n : ℕ). IsServed n calls_then seats_then) (sym same)
-    (served_then came calls calls_then seats seats_then (served came_more) goes)
+    subst (λ (n : ℕ). IsServed n calls_then seats seats_then) (sym same)
+    (served_then came calls calls_then seats mid seats_then (served came_more) goes)

@@ -3,7 +3,7 @@
 -- By: cases on whether the calls are reported; where they are, what they say is known.
 use Rattle.std.proofs.Common.{Bool, ◌≡◌, ◌++◌, ℕ, ◌+◌, List, [], ◌∷◌, true, false, map}
 use Rattle.std.proofs.Common.{Option, Some, None, refl, ap, sym, subst, ◌∙◌, arith}
-use Rattle.std.specs.Prelude.{is_some, not, ◌||◌, ◌&&◌}
+use Rattle.std.specs.Prelude.{is_some, not, ◌||◌, ◌&&◌, IfSome, take}
 use Rattle.std.proofs.lemmas.List.{append-nil}
 use Rattle.trdp_lines.specs.declared.connections.Accepted.TheVariants.{Came}
 use Rattle.trdp_lines.specs.Connections.{ConnectionCall, Accepts, Writes, Closes, Reading}
@@ -324,3 +324,10 @@ end_next old new left left_then n spoke room (Some found) room_then told none ha
       HandsIn applications_say old new left left_then (end_if n true b)) told.0 handed_in);
   bytes = told.2;
 }
+
+-- the text for an end is the line `reset`
+pub end_gone : (n : ℕ) (spoke : Bool) (room : ℕ) (found : Option (ℕ × ℕ)) (room_then : List ℕ)
+    (gone : ℕ → Type 0) → HandsEnd n spoke room found room_then
+    → IfSome found (λ f. gone f.0 → take f.1 room_then ≡ take room reset_line)
+end_gone n spoke room None room_then gone told = tt
+end_gone n spoke room (Some found) room_then gone told = λ is. told.2

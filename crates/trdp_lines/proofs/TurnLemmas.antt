@@ -3,16 +3,19 @@
 -- By: what each call adds to the bytes of the connection, and to those of another.
 use Rattle.std.proofs.Common.{◌≡◌, ℕ, ◌==◌, ◌++◌, List, [], ◌∷◌, true, false, map, take, refl}
 use Rattle.std.proofs.Common.{ap, sym, ◌∙◌, append_assoc, Option, Some, None, IfSome, IfNone}
-use Rattle.std.proofs.lemmas.Bool.{ne_eqb}
+use Rattle.std.proofs.lemmas.Bool.{ne_eqb, or_from}
 use Rattle.std.proofs.lemmas.List.{append-nil}
+use Rattle.std.proofs.lemmas.List.Folds.{list_any-append}
+use Rattle.trdp_lines.specs.Closings.{IsUnheard, closes, was_closed}
 use Rattle.trdp_lines.specs.Connections.{ConnectionCall, Reads, Writes, bytes_of}
 use Rattle.trdp_lines.specs.Conversations.{ConversationState, HasRead, HasWritten}
 use Rattle.trdp_lines.specs.Lines.{has_line, first_line, behind_line, lines_in}
 use Rattle.trdp_lines.specs.Paths.{IsHeard}
-use Rattle.trdp_lines.specs.Seats.{HandsInIf, HasTurn, HasTurnIfTold, IsUnheard, StaysHeard}
+use Rattle.trdp_lines.specs.Seats.{HandsInIf, HasTurn, HasTurnIfTold, StaysHeard}
 use Rattle.trdp_lines.proofs.CallLemmas.{AreUnheard, quiet_come, read_bytes}
 use Rattle.trdp_lines.proofs.CallLemmas.{read_bytes_other, read_come, read_end, read_end_other}
 use Rattle.trdp_lines.proofs.CallLemmas.{unheard_bytes, unheard_end, writes_quiet}
+use Rattle.trdp_lines.proofs.ClosingLemmas.{writes_close}
 use Rattle.trdp_lines.proofs.HeardLemmas.{line_handed}
 
 -- calls that read nothing read nothing from any connection
@@ -52,6 +55,7 @@ write_turn n calls calls_then old new texts written =
       more = more;
       told = written.told;
       come = rw written.told (quiet_come calls more (writes_quiet n written.writings));
+      unclosed = λ k. writes_close k n written.writings;
       others = λ k other. unheard k;
       own = heard_kept calls calls_then n old new (unheard n)
           (ap (λ (c : ConversationState). c.bytes) written.written)
@@ -80,6 +84,7 @@ read_turn n calls calls_then old new read =
       more = Reads n reading ∷ [];
       told = read.told;
       come = rw read.told (read_come calls n reading);
+      unclosed = λ k. refl;
       others = λ k other.
           let no : n == k ≡ false = ne_eqb n k (λ same. other (sym same)) in
           rw read.told (record {
@@ -119,6 +124,7 @@ line_turn n (Some calls) old new has is = record {
   more = [];
   told = sym (append-nil calls);
   come = refl;
+  unclosed = λ k. refl;
   others = λ k other. record { bytes = refl; ended = refl };
   own = rw is (line_handed n calls old has);
 }
@@ -131,6 +137,7 @@ still_turn n (Some calls) old new is = record {
   more = [];
   told = sym (append-nil calls);
   come = refl;
+  unclosed = λ k. refl;
   others = λ k other. record { bytes = refl; ended = refl };
   own = rw is (λ was. record { heard = was; more = sym (append-nil (lines_in was.before)) });
 }
@@ -144,6 +151,9 @@ next_told n one two three a b c lines first second = record {
   told = second.told ∙ ap (λ (calls : List ConnectionCall). calls ++ second.more) first.told
       ∙ append_assoc one first.more second.more;
   come = second.come ∙ first.come;
+  unclosed = λ k. list_any-append (closes k) first.more second.more
+      ∙ or_from (was_closed k first.more) (was_closed k second.more) (first.unclosed k)
+      (second.unclosed k);
   others = λ k other. record {
     bytes = (second.others k other).bytes ∙ (first.others k other).bytes;
     ended = (second.others k other).ended ∙ (first.others k other).ended;

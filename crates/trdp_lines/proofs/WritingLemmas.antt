@@ -1,18 +1,21 @@
 -- What is written to a connection by one write after another.
 -- For `Conversation::write`.
 -- By induction on the steps of the first.
-use Rattle.std.proofs.Common.{◌≡◌, ◌++◌, ℕ, List, [], ◌∷◌, Option, map, refl, ap, sym, subst, ◌∙◌}
+use Rattle.std.proofs.Common.{◌≡◌, ◌==◌, ◌++◌, ℕ, List, [], ◌∷◌, Option, map, refl, ap, sym}
+use Rattle.std.proofs.Common.{subst, ◌∙◌, Bool, true, false, length, arith}
+use Rattle.std.proofs.lemmas.Bool.{eqb-true}
 use Rattle.std.proofs.Common.{append_assoc}
 use Rattle.std.specs.List.{flat_map}
 use Rattle.std.proofs.lemmas.List.{map-append}
 use Rattle.std.proofs.lemmas.List.Concat.{flat_map-append}
 use Rattle.trdp_lines.specs.Connections.{ConnectionCall, TellsMore, Writes}
 use Rattle.trdp_lines.specs.Conversations.{ConversationState, HasWritten, bytes_taken}
-use Rattle.trdp_lines.specs.Outgoings.{OutgoingState, lost_told}
+use Rattle.trdp_lines.specs.Outgoings.{OutgoingState, can_tell, lost_line, lost_told, takes_text}
+use Rattle.trdp_lines.specs.Outgoings.{with_text}
 use Rattle.trdp_lines.specs.OutgoingRuns.{OutgoingStep, after_step, after_steps, taken, taken_in}
-use Rattle.trdp_lines.specs.OutgoingRuns.{Told, texts_in, texts_of}
+use Rattle.trdp_lines.specs.OutgoingRuns.{texts_in, texts_of}
 use Rattle.trdp_lines.proofs.AskingLemmas.{told_next}
-use Rattle.trdp_lines.proofs.HandingLemmas.{tells_nothing}
+use Rattle.trdp_lines.proofs.OutgoingLemmas.{text_is, told_is}
 
 after_both : (state : OutgoingState) (first second : List OutgoingStep)
     → after_steps state (first ++ second) ≡ after_steps (after_steps state first) second
@@ -26,6 +29,48 @@ taken_both state (step ∷ first) second =
     ap (λ l. taken_in state step ++ l) (taken_both (after_step state step) first second)
     ∙ sym (append_assoc (taken_in state step) (taken (after_step state step) first)
     (taken (after_steps (after_step state step) first) second))
+
+-- where two lists have nothing the first has nothing
+nil_front : {X : Type 0} (xs ys : List X) → xs ++ ys ≡ [] → xs ≡ []
+nil_front [] ys none = refl
+nil_front (x ∷ xs) ys none = cc
+
+-- nor has the second
+nil_behind : {X : Type 0} (xs ys : List X) → xs ++ ys ≡ [] → ys ≡ []
+nil_behind [] ys none = none
+nil_behind (x ∷ xs) ys none = cc
+
+-- where nothing waits that can be counted, nothing waits
+pub none_waits : (bytes : List ℕ) → (length bytes == 0) ≡ true → bytes ≡ []
+none_waits [] none = refl
+none_waits (byte ∷ bytes) none =
+    absurd (omega (arith, eqb-true (length (byte ∷ bytes)) 0 none))
+
+-- where nothing waits after what was dropped is reported, nothing did
+told_grows : (can : Bool) (state : OutgoingState) → can_tell state ≡ can
+    → (lost_told state).waiting ≡ [] → state.waiting ≡ []
+told_grows true state is none = nil_front state.waiting (lost_line state.lost)
+    (sym (ap (λ (s : OutgoingState). s.waiting) (told_is true state is)) ∙ none)
+told_grows false state is none =
+    sym (ap (λ (s : OutgoingState). s.waiting) (told_is false state is)) ∙ none
+
+-- the same by its name
+pub told_none : (state : OutgoingState) → (lost_told state).waiting ≡ [] → state.waiting ≡ []
+told_none state none = told_grows (can_tell state) state refl none
+
+-- where nothing waits after a text is pushed, nothing did
+push_grows : (takes : Bool) (state : OutgoingState) (text : List ℕ)
+    → takes_text state text ≡ takes → (with_text state text).waiting ≡ [] → state.waiting ≡ []
+push_grows true state text is none = nil_front state.waiting text
+    (sym (ap (λ (s : OutgoingState). s.waiting) (text_is true state text is)) ∙ none)
+push_grows false state text is none =
+    sym (ap (λ (s : OutgoingState). s.waiting) (text_is false state text is)) ∙ none
+
+-- the same by its name
+pub pushed_none : (state : OutgoingState) (text : List ℕ)
+    → (with_text (lost_told state) text).waiting ≡ [] → state.waiting ≡ []
+pushed_none state text none = told_none state
+    (push_grows (takes_text (lost_told state) text) (lost_told state) text refl none)
 
 -- one write after another
 pub written_both : (n : ℕ) (a b c : ConversationState)
@@ -51,17 +96,18 @@ written_both n a b c one two three first second = record {
       first.written
       ∙ ap (λ (o : OutgoingState). record a { outgoing = o })
       (sym (after_both a.outgoing first.steps second.steps));
+  tried = λ none. (
+    (first.tried (nil_front first.writings second.writings none)).0,
+    (second.tried (nil_behind first.writings second.writings none)).1,
+  );
 }
 
--- what was dropped is reported, or not, and nothing is written
-pub told_alone : (n : ℕ) (old : ConversationState) (out : OutgoingState)
-    (calls : Option (List ConnectionCall)) → out ≡ lost_told old.outgoing
-    → HasWritten n [] old (record old { outgoing = out }) calls calls
-told_alone n old out calls is = record {
-  steps = Told ∷ [];
-  writings = [];
-  texts_are = refl;
-  told = tells_nothing calls;
-  took = refl;
-  written = ap (λ (o : OutgoingState). record old { outgoing = o }) is;
-}
+-- where what was dropped can't be reported, that is written which was
+pub told_not : (n : ℕ) (old new : ConversationState) (out : OutgoingState)
+    (calls calls_then : Option (List ConnectionCall)) → out ≡ lost_told new.outgoing
+    → can_tell new.outgoing ≡ false → HasWritten n [] old new calls calls_then
+    → HasWritten n [] old (record new { outgoing = out }) calls calls_then
+told_not n old new out calls calls_then is not written =
+    subst (λ (o : OutgoingState).
+    HasWritten n [] old (record new { outgoing = o }) calls calls_then)
+    (sym (is ∙ told_is false new.outgoing not)) written

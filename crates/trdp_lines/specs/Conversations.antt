@@ -61,8 +61,9 @@ pub record HasRead (number : ℕ) (old new : ConversationState)
 abbrev pub bytes_taken : Writing → List ℕ
 bytes_taken writing = take (went_count writing.went) writing.bytes
 
--- these texts were pushed, in order, and writes to a connection of this number were made, by which
--- the other side took what these steps say
+-- These texts were pushed, in order, and writes to a connection of this number were made, by which
+-- the other side took what these steps say. Where no write was made, nothing waited and
+-- nothing waits.
 pub record HasWritten (number : ℕ) (texts : List (List ℕ)) (old new : ConversationState)
     (calls calls_then : Option (List ConnectionCall)) : Type 0 where
   pub steps : List OutgoingStep
@@ -71,3 +72,4 @@ pub record HasWritten (number : ℕ) (texts : List (List ℕ)) (old new : Conver
   pub told : TellsMore calls calls_then (map (Writes number) writings)
   pub took : flat_map bytes_taken writings ≡ taken old.outgoing steps
   pub written : new ≡ record old { outgoing = after_steps old.outgoing steps }
+  pub tried : writings ≡ [] → (old.outgoing.waiting ≡ []) × (new.outgoing.waiting ≡ [])

@@ -5,6 +5,7 @@ pub mod IntakeRuns
 pub mod Outgoings
 pub mod OutgoingRuns
 pub mod Said
+pub mod Closings
 pub mod Conversations
 pub mod Paths
 pub mod Comings

@@ -1,16 +1,17 @@
 -- The connections at the path of the operator's port, as the wire knows them.
-use Rattle.std.specs.Prelude.{◌≡◌, ℕ, ◌<◌, ◌==◌, ◌⊎◌, Bool, true, false}
+use Rattle.std.specs.Prelude.{◌≡◌, ℕ, ◌<◌, ◌==◌, ◌≢◌, ◌⊎◌, Bool, true, false}
 use Rattle.std.specs.Prelude.{if◌then◌else◌, List, [], ◌∷◌, length, take, replicate}
 use Rattle.std.specs.Prelude.{Option, Some, None, Result, is_ok, slice_index_or, slice_set}
 use Rattle.std.specs.List.{flat_map, filter, list_any}
 use Rattle.trdp_lines.specs.declared.path_fault.LostText.{LostText}
+use Rattle.trdp_lines.specs.Closings.{HasLeft}
 use Rattle.trdp_lines.specs.Comings.{WasRefused}
 use Rattle.trdp_lines.specs.Connections.{ConnectionCall, TellsMore}
 use Rattle.trdp_lines.specs.Conversations.{ConversationState, HasWritten, conversation_of}
 use Rattle.trdp_lines.specs.Conversations.{lines_left_by}
 use Rattle.trdp_lines.specs.Outgoings.{lost_told, takes_text}
 use Rattle.trdp_lines.specs.Paths.{speaks}
-use Rattle.trdp_lines.specs.Said.{Said, HandsIn, is_over, lines_of}
+use Rattle.trdp_lines.specs.Said.{Said, HandsIn, lines_of}
 
 -- the connections of the path, its seats, each of a connection or free, and how many came; and
 -- whether something was heard there, at the takes since that was asked the last time
@@ -95,18 +96,24 @@ HandsInNextLine calls calls_then seats seats_then room (Some found) room_then =
 abbrev pub has_seat : ℕ → List ConversationState → Bool
 has_seat n seats = list_any (is_of n) seats
 
--- a connection that has a seat no longer is over
-abbrev pub AreOver : Option (List ConnectionCall)
+-- a connection that has a seat no longer was closed, once it was over
+abbrev pub HaveLeft : Option (List ConnectionCall)
     → (seats seats_then : List ConversationState) → Type 0
-AreOver None seats seats_then = Unit {0}
-AreOver (Some calls_then) seats seats_then = (n : ℕ) → has_seat n seats ≡ true
-    → has_seat n seats_then ≡ false → is_over n calls_then ≡ true
+HaveLeft None seats seats_then = Unit {0}
+HaveLeft (Some calls_then) seats seats_then = (n : ℕ) → has_seat n seats ≡ true
+    → has_seat n seats_then ≡ false → HasLeft n calls_then
 
--- the connection of this number has a seat, is over, or was refused
-abbrev pub IsServed : ℕ → Option (List ConnectionCall) → List ConversationState → Type 0
-IsServed n None seats = Unit {0}
-IsServed n (Some calls) seats =
-    (has_seat n seats ≡ true) ⊎ ((is_over n calls ≡ true) ⊎ WasRefused n calls)
+-- each of these seats is that of a connection
+abbrev pub AreTaken : List ConversationState → Type 0
+AreTaken seats = (place : ℕ) → place < length seats → (seat_at seats place).number ≢ None
+
+-- The connection of this number, which came when the seats were these, has a seat; or it was closed,
+-- once it was over, or because each seat was that of another one.
+abbrev pub IsServed : ℕ → Option (List ConnectionCall) → (seats seats_then : List ConversationState)
+    → Type 0
+IsServed n None seats seats_then = Unit {0}
+IsServed n (Some calls_then) seats seats_then = (has_seat n seats_then ≡ true)
+    ⊎ (HasLeft n calls_then ⊎ (AreTaken seats × WasRefused n calls_then))
 
 -- a text was said to the connection of this number: its seat is changed by that, and no other
 pub record SaysAt (calls calls_then : Option (List ConnectionCall)) (n : ℕ) (text : List ℕ)

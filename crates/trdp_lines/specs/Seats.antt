@@ -1,12 +1,13 @@
 -- What holds of the seats of a path at any time, and what one of them is asked.
 use Rattle.std.specs.Prelude.{◌≡◌, ℕ, ◌+◌, ◌<◌, ◌≤◌, ◌≢◌, ◌++◌, true, false, if◌then◌else◌}
 use Rattle.std.specs.Prelude.{length, take, List, [], ◌∷◌, Option, Some, None, codes}
+use Rattle.trdp_lines.specs.Closings.{AreOpenIfTold, HasLeft, IsUnheard, was_closed}
 use Rattle.trdp_lines.specs.Connections.{ConnectionCall, Writing, Writes, Closes, TellsMore}
 use Rattle.trdp_lines.specs.Conversations.{ConversationState}
 use Rattle.trdp_lines.specs.Lines.{lines_in}
 use Rattle.trdp_lines.specs.OperatorPaths.{has_seat, is_of, left_at_seat, seat_at}
 use Rattle.trdp_lines.specs.Paths.{IsHeard, IsUnreadFrom, last_number}
-use Rattle.trdp_lines.specs.Said.{bytes_from, connections_in, has_ended, is_over}
+use Rattle.trdp_lines.specs.Said.{connections_in}
 
 -- how many of these seats are those of the connection of this number
 abbrev pub seats_of : ℕ → List ConversationState → ℕ
@@ -47,6 +48,7 @@ pub record IsPath (calls : Option (List ConnectionCall)) (seats : List Conversat
   pub order : next ≤ 4
   pub within : came ≤ last_number
   pub seated : AreSeated seats came
+  pub present : AreOpenIfTold calls (λ n. has_seat n seats) came
   pub known : AreTrueIfTold calls seats came
 
 -- nothing is left to hand in at a place
@@ -62,11 +64,6 @@ KeepsOthers place seats seats_then =
 abbrev pub StaySilent : (seats seats_then : List ConversationState) → Type 0
 StaySilent seats seats_then = (k : ℕ) → IsSilentAt seats k → IsSilentAt seats_then k
 
--- of a connection nothing was read between these calls
-pub record IsUnheard (calls calls_then : List ConnectionCall) (n : ℕ) : Type 0 where
-  pub bytes : bytes_from n calls_then ≡ bytes_from n calls
-  pub ended : has_ended n calls_then ≡ has_ended n calls
-
 -- what a seat knows of its connection stays true, and these more of its lines were handed in
 pub record StaysHeard (n : ℕ) (calls calls_then : List ConnectionCall)
     (old new : ConversationState) (lines : List (List ℕ)) (was : IsHeard calls n old)
@@ -74,13 +71,14 @@ pub record StaysHeard (n : ℕ) (calls calls_then : List ConnectionCall)
   pub heard : IsHeard calls_then n new
   pub more : lines_in heard.before ≡ lines_in was.before ++ lines
 
--- between these calls none came, the connection of this number alone was read from, and these
--- lines of it were handed in
+-- between these calls none came, none was closed, the connection of this number alone was read
+-- from, and these lines of it were handed in
 pub record HasTurn (n : ℕ) (calls calls_then : List ConnectionCall)
     (old new : ConversationState) (lines : List (List ℕ)) : Type 0 where
   pub more : List ConnectionCall
   pub told : calls_then ≡ calls ++ more
   pub come : connections_in calls_then ≡ connections_in calls
+  pub unclosed : (k : ℕ) → was_closed k more ≡ false
   pub others : (k : ℕ) → k ≢ n → IsUnheard calls calls_then k
   pub own : (was : IsHeard calls n old) → StaysHeard n calls calls_then old new lines was
 
@@ -131,7 +129,7 @@ pub record StaysUnseated (calls calls_then : List ConnectionCall)
   pub unseated : has_seat n seats_then ≡ false
 
 -- between these calls none came, those without a seat weren't read from, and one that has a seat
--- no longer is over
+-- no longer was closed, once it was over
 pub record GoesOn (calls calls_then : List ConnectionCall)
     (seats seats_then : List ConversationState) : Type 0 where
   pub more : List ConnectionCall
@@ -139,8 +137,8 @@ pub record GoesOn (calls calls_then : List ConnectionCall)
   pub come : connections_in calls_then ≡ connections_in calls
   pub others : (n : ℕ) → has_seat n seats ≡ false
       → StaysUnseated calls calls_then seats seats_then n
-  pub over : (n : ℕ) → has_seat n seats ≡ true → has_seat n seats_then ≡ false
-      → is_over n calls_then ≡ true
+  pub left : (n : ℕ) → has_seat n seats ≡ true → has_seat n seats_then ≡ false
+      → HasLeft n calls_then
 
 -- the same of calls that may not be reported
 abbrev pub GoesOnIfTold : (calls calls_then : Option (List ConnectionCall))
@@ -149,6 +147,11 @@ GoesOnIfTold calls None seats seats_then = Unit {0}
 GoesOnIfTold None (Some calls_then) seats seats_then = ⊥
 GoesOnIfTold (Some calls) (Some calls_then) seats seats_then =
     GoesOn calls calls_then seats seats_then
+
+-- each seat that is taken is what it was
+abbrev pub KeepTaken : (seats seats_then : List ConversationState) → Type 0
+KeepTaken seats seats_then = (place n : ℕ) → (seat_at seats place).number ≡ Some n
+    → seat_at seats_then place ≡ seat_at seats place
 
 -- each that has a seat keeps it
 abbrev pub KeepSeats : (seats seats_then : List ConversationState) → Type 0

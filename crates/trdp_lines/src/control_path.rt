@@ -49,17 +49,20 @@ impl<C: Connections> Model for ControlPath<C> {
 }
 
 impl<C: Connections> ControlPath<C> {
-    ghost use Rattle.std.specs.Prelude.{◌≡◌, ◌≤◌, ℕ, true, [], length, IfOk, IfErr, IfSome};
+    ghost use Rattle.std.specs.Prelude.{◌≡◌, ◌≤◌, ℕ, true, [], length, take, IfOk, IfErr, IfSome};
     ghost use Rattle.std.specs.Prelude.{IfNone, Some, None, is_err, is_some, ◌||◌, false};
     ghost use Rattle.trdp_lines.specs.Askings.{AsksNext, AsksSpeaker, IfNothing, Listens};
     ghost use Rattle.trdp_lines.specs.Askings.{NoneFails, ReadsSpeaker, StillSpeaks, TakesTurn};
+    ghost use Rattle.trdp_lines.specs.Askings.{TriesOne};
+    ghost use Rattle.trdp_lines.specs.Closings.{AreThere, FindsNothing};
     ghost use Rattle.trdp_lines.specs.Comings.{ComesNext, HaveCome};
-    ghost use Rattle.trdp_lines.specs.ControlPaths.{AreServed, ProceedsIfTold, has_place};
+    ghost use Rattle.trdp_lines.specs.ControlPaths.{AreServed, IsControlPath, ProceedsIfTold};
+    ghost use Rattle.trdp_lines.specs.ControlPaths.{has_place};
     ghost use Rattle.trdp_lines.specs.ControlPaths.{no_places, places_of};
     ghost use Rattle.trdp_lines.specs.Conversations.{conversation_of};
     ghost use Rattle.trdp_lines.specs.Hearings.{Hears, IsQuiet, has_found};
     ghost use Rattle.trdp_lines.specs.Paths.{HandsInNext, IsReadyIf, SaysTo, left_at, speaks};
-    ghost use Rattle.trdp_lines.specs.Said.{HandsIn, applications_say};
+    ghost use Rattle.trdp_lines.specs.Said.{HandsIn, applications_say, reset_line};
 
     /// The connections at a path, of which none was accepted yet. All memory that they ever need
     /// is allocated here.
@@ -129,12 +132,19 @@ impl<C: Connections> ControlPath<C> {
         ensures refused { IfErr result (λ _. HandsInNext
             (C.calls self.old.connections) (C.calls self.new.connections)
             (left_at self.old) (left_at self.new) (length room.old) None room.new) }
+        ensures gone { IfOk result (λ found. IfSome found (λ f.
+            speaks self.new.speaker.number f.0 ≡ false
+            → take f.1 room.new ≡ take (length room.old) reset_line)) }
         ensures numbers { IfOk result (λ found. IfSome found (λ f. f.0 ≤ self.new.came)) }
         ensures came { ComesNext
             (C.calls self.old.connections) (C.calls self.new.connections)
             self.old.came self.new.came }
         ensures served { AreServed (C.calls self.new.connections)
             (places_of self.old) (places_of self.new) }
+        ensures there { AreThere (C.calls self.new.connections)
+            (λ n. has_place n (places_of self.new)) }
+        ensures tried { TriesOne (C.calls self.old.connections) (C.calls self.new.connections)
+            self.old.speaker }
         ensures asked { IfNothing result (λ fault. AsksSpeaker
             (C.calls self.old.connections) (C.calls self.new.connections)
             self.old.waiting self.old.came self.new.speaker.number fault) }
@@ -153,6 +163,7 @@ impl<C: Connections> ControlPath<C> {
         self.flush();
         if let Some(found) = self.next_text(room) {
             self.heard = true;
+            self.sound();
             return Ok(Some(found));
         }
         let admitted = self.admit();
@@ -160,12 +171,16 @@ impl<C: Connections> ControlPath<C> {
         match self.next_text(room) {
             Some(found) => {
                 self.heard = true;
+                self.sound();
                 Ok(Some(found))
             }
-            None => match admitted {
-                Ok(()) => Ok(None),
-                Err(fault) => Err(fault),
-            },
+            None => {
+                self.sound();
+                match admitted {
+                    Ok(()) => Ok(None),
+                    Err(fault) => Err(fault),
+                }
+            }
         }
     }
 
@@ -197,6 +212,15 @@ impl<C: Connections> ControlPath<C> {
         }
     }
 
+    /// What holds of the path at any time: a law for [`ControlPath::take`], which does nothing when
+    /// it runs.
+    fn sound(&self)
+        ensures { IsControlPath (C.calls self.now.connections) self.now.speaker
+            self.now.waiting self.now.came }
+    {
+        let _ = &self.speaker;
+    }
+
     /// Writes to the one that speaks what waits for it.
     fn flush(&mut self)
         ensures left { left_at self.new ≡ left_at self.old }
@@ -214,6 +238,8 @@ impl<C: Connections> ControlPath<C> {
         ensures heard { Hears (C.calls self.old.connections) (C.calls self.new.connections)
             self.old.heard self.new.heard }
         ensures low { (n : ℕ) → has_place n (places_of self.old) ≡ true → n ≤ self.old.came }
+        ensures tried { TriesOne (C.calls self.old.connections) (C.calls self.new.connections)
+            self.old.speaker }
         ensures kept { C.file_number self.new.connections ≡ C.file_number self.old.connections }
     {
         if let Some(number) = self.speaker.number() {
@@ -230,6 +256,8 @@ impl<C: Connections> ControlPath<C> {
             (C.calls self.old.connections) (C.calls self.new.connections)
             (left_at self.old) (left_at self.new) (length room.old) result room.new }
         ensures ready { IfNone result (IsReadyIf self.new.speaker.number self.new.speaker) }
+        ensures gone { IfSome result (λ found. speaks self.new.speaker.number found.0 ≡ false
+            → take found.1 room.new ≡ take (length room.old) reset_line) }
         ensures numbers { IfSome result (λ found. found.0 ≤ self.new.came) }
         ensures goes_on { ProceedsIfTold
             (C.calls self.old.connections) (C.calls self.new.connections)
@@ -340,9 +368,10 @@ impl<C: Connections> ControlPath<C> {
 
     /// Beside an application that lives, the one that waits is sent `busy` and closed. One that
     /// has said no line gives way to it.
-    fn decide(&mut self, number: u64)
-        requires speaks { self.old.speaker.number ≡ Some number }
+    fn decide(&mut self, silent: u64)
+        requires speaks { self.old.speaker.number ≡ Some silent }
         requires ready { IsReadyIf self.old.speaker.number self.old.speaker }
+        requires asked { FindsNothing silent (C.calls self.old.connections) }
         ensures hands_in { HandsIn applications_say
             (C.calls self.old.connections) (C.calls self.new.connections)
             (left_at self.old) (left_at self.new) [] }
@@ -368,7 +397,7 @@ impl<C: Connections> ControlPath<C> {
         if lives {
             refuse(&mut self.connections, next);
         } else {
-            self.connections.close(number);
+            self.connections.close(silent);
             self.speaker.begin(Some(next));
         }
     }

@@ -3,6 +3,7 @@
 ghost use Rattle.std.specs.Prelude.{◌≡◌, ◌<◌, ◌≤◌, [], ◌∷◌, length, take, true, false, not};
 ghost use Rattle.std.specs.Prelude.{Some, None, IfOk, IfSome, IfNone};
 ghost use Rattle.trdp_lines.specs.declared.connections.Came.TheVariants.{Nothing};
+ghost use Rattle.trdp_lines.specs.Closings.{FindsNothing};
 ghost use Rattle.trdp_lines.specs.Connections.{came_count, has_come};
 ghost use Rattle.trdp_lines.specs.Conversations.{HasRead, HasWritten, conversation_of, is_done};
 ghost use Rattle.trdp_lines.specs.Hearings.{Hears};
@@ -121,6 +122,7 @@ impl Conversation {
         requires { length self.old.bytes < intake_room }
         ensures read { HasRead number self.old self.new (C.calls from.old) (C.calls from.new) }
         ensures nothing { result ≡ Nothing → self.new ≡ self.old }
+        ensures asked { result ≡ Nothing → FindsNothing number (C.calls from.new) }
         ensures heard { Hears (C.calls from.old) (C.calls from.new) false (has_come result) }
         ensures kept { C.file_number from.new ≡ C.file_number from.old }
     {

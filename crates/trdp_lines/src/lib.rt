@@ -25,14 +25,24 @@
 //! Proved, where the connections report what was asked of them: what is handed in is what
 //! applications said by these reports, each line once and in order, cut to the room. The end of
 //! each comes after its last line and before any line of a later one. Each connection that comes
-//! has the next number, which no later one gets. A take that finds nothing has asked for the next
-//! connection, unless one waits or the last number was given, and read from those that speak.
-//! Where nothing is heard at it, no call of the connections brought anything, and none waited.
+//! has the next number, which no later one gets.
+//!
+//! A connection that came has a seat, or it was closed. It is closed when it is over. At a control
+//! port it is also closed if it has said no line and a later one is there, or after `busy` if an
+//! application lives that came before it. Before both, a read found that the one that spoke goes
+//! on. At the operator's port it is closed after `busy` if each of the four seats is taken. No
+//! connection that has a seat was closed.
+//!
+//! A take that finds nothing has asked for the next connection, unless one waits or the last number
+//! was given, and read from those that speak; none of these is over. A take and a give write to a
+//! connection at least once if something waits for it. Where nothing is heard at a take, no call of
+//! the connections brought anything, and none waited.
 //!
 //! If connections report nothing, as the system's don't, only the clauses about their numbers hold
-//! of them. No contract says who is closed or receives `busy`, that a take or a give writes what
-//! waits, what the other side sends and takes, nor that a search for the end of a line begins where
-//! the search before it ended. The tests of `clients/` try the first three.
+//! of them. No contract says how much a write offers, what else a take writes, that it keeps what
+//! waits, that a waiting connection is ever decided, what the other side sends and takes, nor that a
+//! search for the end of a line begins where the search before it ended. The tests of `clients/`
+//! try the first four.
 #![tactic(auto)]
 
 mod admission;

@@ -46,15 +46,17 @@ impl<C: Connections> OperatorPath<C> {
     ghost use Rattle.std.specs.Prelude.{IfOk, IfErr, IfSome, IfNone, Some, None};
     ghost use Rattle.trdp_lines.specs.Lines.{IsUnended};
     ghost use Rattle.trdp_lines.specs.Askings.{AsksNext, AsksOne, AsksPlaces, AsksSeats};
-    ghost use Rattle.trdp_lines.specs.Askings.{IfNothing, NoneFails, Stay};
+    ghost use Rattle.trdp_lines.specs.Askings.{IfNothing, NoneFails, Stay, TriesAll};
+    ghost use Rattle.trdp_lines.specs.Closings.{AreOpenIfTold, AreThere};
     ghost use Rattle.trdp_lines.specs.Comings.{ComesNext};
     ghost use Rattle.trdp_lines.specs.Conversations.{is_done};
     ghost use Rattle.trdp_lines.specs.Hearings.{Hears, IsQuietRound, has_found};
-    ghost use Rattle.trdp_lines.specs.OperatorPaths.{AreOver, HandsInFound};
+    ghost use Rattle.trdp_lines.specs.OperatorPaths.{HandsInFound, HaveLeft};
     ghost use Rattle.trdp_lines.specs.OperatorPaths.{HandsInLines, HandsInNextLine, IsServed};
     ghost use Rattle.trdp_lines.specs.OperatorPaths.{NothingLeft, SaysToSeat, has_seat, left_in};
     ghost use Rattle.trdp_lines.specs.OperatorPaths.{path_of, seat_at};
-    ghost use Rattle.trdp_lines.specs.Seats.{GoesOnIfTold, IsSilentAt, KeepSeats, KeepsOthers};
+    ghost use Rattle.trdp_lines.specs.Seats.{AreTrueIfTold, GoesOnIfTold, IsSilentAt, KeepSeats};
+    ghost use Rattle.trdp_lines.specs.Seats.{KeepTaken, KeepsOthers};
     ghost use Rattle.trdp_lines.specs.Seats.{StaySilent};
 
     /// The connections at a path, of which none was accepted yet. All memory that they ever need is
@@ -120,8 +122,12 @@ impl<C: Connections> OperatorPath<C> {
             (C.calls self.old.connections) (C.calls self.new.connections)
             self.old.came self.new.came }
         ensures served { self.old.came < self.new.came
-            → IsServed self.new.came (C.calls self.new.connections) self.new.seats }
-        ensures over { AreOver (C.calls self.new.connections) self.old.seats self.new.seats }
+            → IsServed self.new.came (C.calls self.new.connections)
+            self.old.seats self.new.seats }
+        ensures left { HaveLeft (C.calls self.new.connections) self.old.seats self.new.seats }
+        ensures there { AreThere (C.calls self.new.connections) (λ n. has_seat n self.new.seats) }
+        ensures tried { IfNothing result (λ _. TriesAll
+            (C.calls self.old.connections) (C.calls self.new.connections) self.old.seats) }
         ensures asked { IfNothing result (λ fault. AsksSeats
             (C.calls self.old.connections) (C.calls self.new.connections)
             self.old.came self.new.seats fault) }
@@ -134,11 +140,17 @@ impl<C: Connections> OperatorPath<C> {
     {
         let admitted = self.admit();
         match self.next_line(room) {
-            Some(found) => Ok(Some(found)),
-            None => match admitted {
-                Ok(()) => Ok(None),
-                Err(fault) => Err(fault),
-            },
+            Some(found) => {
+                self.sound();
+                Ok(Some(found))
+            }
+            None => {
+                self.sound();
+                match admitted {
+                    Ok(()) => Ok(None),
+                    Err(fault) => Err(fault),
+                }
+            }
         }
     }
 
@@ -182,8 +194,10 @@ impl<C: Connections> OperatorPath<C> {
             (C.calls self.old.connections) (C.calls self.new.connections)
             self.old.came self.new.came }
         ensures served { self.old.came < self.new.came
-            → IsServed self.new.came (C.calls self.new.connections) self.new.seats }
+            → IsServed self.new.came (C.calls self.new.connections)
+            self.old.seats self.new.seats }
         ensures keep { KeepSeats self.old.seats self.new.seats }
+        ensures taken { KeepTaken self.old.seats self.new.seats }
         ensures asked { AsksNext
             (C.calls self.old.connections) (C.calls self.new.connections)
             (Unit {0}) self.old.came (is_err result) }
@@ -268,9 +282,14 @@ impl<C: Connections> OperatorPath<C> {
         None
     }
 
-    /// There are four seats: a law for the other functions, which does nothing when it runs.
+    /// There are four seats, and what is known of them is true: a law for the other functions,
+    /// which does nothing when it runs.
     fn sound(&self)
-        ensures { length self.now.seats ≡ 4 }
+        ensures four { length self.now.seats ≡ 4 }
+        ensures present { AreOpenIfTold (C.calls self.now.connections)
+            (λ n. has_seat n self.now.seats) self.now.came }
+        ensures known { AreTrueIfTold (C.calls self.now.connections)
+            self.now.seats self.now.came }
     {
         let _ = &self.seats;
     }
@@ -336,7 +355,7 @@ impl<C: Connections> OperatorPath<C> {
             (is_some result || self.old.heard) self.new.heard }
         ensures asked { IfNone result (AsksOne number
             (C.calls self.old.connections) (C.calls self.new.connections)
-            (seat_at self.new.seats place)) }
+            (seat_at self.old.seats place) (seat_at self.new.seats place)) }
         ensures kept { C.file_number self.new.connections ≡ C.file_number self.old.connections }
     {
         self.next = place + 1;
@@ -366,6 +385,8 @@ impl<C: Connections> OperatorPath<C> {
         ensures stay { Stay self.old.seats self.new.seats }
         ensures going { (n : ℕ) → (seat_at self.new.seats place).number ≡ Some n
             → is_done (seat_at self.old.seats place) ≡ false }
+        ensures same { (n : ℕ) → (seat_at self.new.seats place).number ≡ Some n
+            → seat_at self.new.seats place ≡ seat_at self.old.seats place }
         ensures kept { C.file_number self.new.connections ≡ C.file_number self.old.connections }
     {
         let seat = &mut self.seats[place];

@@ -59,7 +59,7 @@ pub(crate) fn hear<C: Connections>(
     ensures heard { Hears (C.calls from.old) (C.calls from.new)
         (is_some result || heard.old) heard.new }
     ensures asked { IfNone result
-        (AsksOne number (C.calls from.old) (C.calls from.new) seat.new) }
+        (AsksOne number (C.calls from.old) (C.calls from.new) seat.old seat.new) }
     ensures kept { C.file_number from.new ≡ C.file_number from.old }
 {
     seat.flush(from, number);

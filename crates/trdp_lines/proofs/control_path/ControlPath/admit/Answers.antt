@@ -16,7 +16,8 @@ use Rattle.trdp_lines.proofs.control_path.ControlPath.admit.Goals as goal
 pub invariant_of-self : goal.invariant_of-self
 invariant_of-self g c =
     let inside = c.self.inside in
-    path_kept _ _ inside.speaker inside.speaker inside.waiting inside.came refl c.self.invariant
+    path_kept _ _ (Accepts (inside.came + 1) Nothing ∷ []) inside.speaker inside.speaker inside.waiting
+    inside.came refl (λ n. refl) (rw c.in-Nothing.is at c.accept.ensures.told) c.self.invariant
     (quiet_kept (g.C.Connections.calls inside.connections) (g.C.Connections.calls c.accept.new.self)
     (Accepts (inside.came + 1) Nothing ∷ []) inside.speaker inside.speaker.outgoing inside.waiting
     inside.came (nothing_quiet (inside.came + 1)) (rw c.in-Nothing.is at c.accept.ensures.told)
@@ -25,7 +26,8 @@ invariant_of-self g c =
 pub invariant_of-self-in-Failed : goal.invariant_of-self-in-Failed
 invariant_of-self-in-Failed g c =
     let inside = c.self.inside in
-    path_kept _ _ inside.speaker inside.speaker inside.waiting inside.came refl c.self.invariant
+    path_kept _ _ (Accepts (inside.came + 1) Failed ∷ []) inside.speaker inside.speaker inside.waiting
+    inside.came refl (λ n. refl) (rw c.in-Failed.is at c.accept.ensures.told) c.self.invariant
     (quiet_kept (g.C.Connections.calls inside.connections) (g.C.Connections.calls c.accept.new.self)
     (Accepts (inside.came + 1) Failed ∷ []) inside.speaker inside.speaker.outgoing inside.waiting
     inside.came (failed_quiet (inside.came + 1)) (rw c.in-Failed.is at c.accept.ensures.told)
@@ -37,7 +39,7 @@ invariant_of-self-then-is_none g c =
     let none : is_some inside.speaker.number ≡ false = ap is_some (sym c.number.ensures)
     ∙ c.is_none.ensures ∙ ap not c.if-is_none.true in
     path_first _ _ inside.speaker c.begin.new.self inside.waiting inside.came c.begin.ensures
-    c.self.invariant
+    (rw c.in-Came.is at c.accept.ensures.told) c.self.invariant
     (subst (λ (s : ConversationState). IsTrueIfTold (g.C.Connections.calls c.accept.new.self) s
     inside.waiting (inside.came + 1)) (sym c.begin.ensures)
     (first_kept (g.C.Connections.calls inside.connections)
@@ -48,7 +50,8 @@ invariant_of-self-then-is_none g c =
 pub invariant_of-self-else-is_none : goal.invariant_of-self-else-is_none
 invariant_of-self-else-is_none g c =
     let inside = c.self.inside in
-    path_behind _ _ inside.speaker inside.waiting inside.came c.self.invariant
+    path_behind _ _ inside.speaker inside.waiting inside.came
+    (rw c.in-Came.is at c.accept.ensures.told) c.self.invariant
     (behind_kept (g.C.Connections.calls inside.connections)
     (g.C.Connections.calls c.accept.new.self) inside.speaker inside.waiting inside.came
     (ap is_some (sym c.number.ensures) ∙ c.is_none.ensures ∙ ap not c.if-is_none.false)

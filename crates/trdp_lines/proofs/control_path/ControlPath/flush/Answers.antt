@@ -1,7 +1,9 @@
-use Rattle.trdp_lines.proofs.ListeningLemmas.{written_fails}
-use Rattle.std.proofs.Common.{[], ap}
+use Rattle.trdp_lines.proofs.ListeningLemmas.{tries_none, tries_written, written_fails}
+use Rattle.std.proofs.Common.{[], ap, map, sym, ◌∙◌}
+use Rattle.trdp_lines.specs.Connections.{Writes}
 use Rattle.trdp_lines.specs.Conversations.{ConversationState}
 use Rattle.trdp_lines.proofs.CallLemmas.{writes_quiet}
+use Rattle.trdp_lines.proofs.ClosingLemmas.{writes_close}
 use Rattle.trdp_lines.proofs.ComingLemmas.{none_quiet}
 use Rattle.trdp_lines.proofs.ControlLemmas.{path_kept, placed_low}
 use Rattle.trdp_lines.proofs.HearingLemmas.{hears_written}
@@ -12,8 +14,11 @@ use Rattle.trdp_lines.proofs.control_path.ControlPath.flush.Goals as goal
 pub invariant_of-self : goal.invariant_of-self
 invariant_of-self g c =
     let inside = c.self.inside in
-    path_kept _ _ inside.speaker c.flush.new.self inside.waiting inside.came
-    (ap (λ (s : ConversationState). s.number) c.flush.ensures.written.written) c.self.invariant
+    let written = c.flush.ensures.written in
+    path_kept _ _ (map (Writes c.in-Some.number) written.writings) inside.speaker
+    c.flush.new.self inside.waiting inside.came
+    (ap (λ (s : ConversationState). s.number) written.written)
+    (λ n. writes_close n c.in-Some.number written.writings) written.told c.self.invariant
     (written_kept c.in-Some.number [] inside.speaker c.flush.new.self
     (g.C.Connections.calls inside.connections) (g.C.Connections.calls c.flush.new.to)
     inside.waiting inside.came c.flush.ensures.written c.self.invariant.known)
@@ -54,3 +59,8 @@ pub returns-in-Some-clause-heard : goal.returns-in-Some-clause-heard
 returns-in-Some-clause-heard g c =
     rw (← c.self.view_is) (hears_written c.in-Some.number [] c.self.inside.speaker
     c.flush.new.self _ _ _ c.flush.ensures.written)
+
+pub returns-in-Some-clause-tried : goal.returns-in-Some-clause-tried
+returns-in-Some-clause-tried g c =
+    rw (← c.self.view_is) (tries_written c.in-Some.number [] c.self.inside.speaker
+    c.flush.new.self _ _ (sym c.number.ensures ∙ c.in-Some.is) c.flush.ensures.written)

@@ -1,5 +1,6 @@
 use Rattle.trdp_lines.proofs.ListeningLemmas.{listens_read, listens_then, reads_one}
-use Rattle.std.proofs.Common.{[], ◌∙◌, ap, sym, subst, arith}
+use Rattle.std.proofs.Common.{[], ◌∷◌, ◌∙◌, ap, sym, subst, arith, refl}
+use Rattle.trdp_lines.specs.Connections.{Reads}
 use Rattle.trdp_lines.specs.Conversations.{ConversationState, left_of}
 use Rattle.trdp_lines.specs.Paths.{IsReadyIf, left_at}
 use Rattle.trdp_lines.specs.Said.{applications_say}
@@ -15,8 +16,10 @@ use Rattle.trdp_lines.proofs.control_path.ControlPath.listen.Goals as goal
 pub invariant_of-self : goal.invariant_of-self
 invariant_of-self g c =
     let inside = c.self.inside in
-    path_kept _ _ inside.speaker c.listen.new.self inside.waiting inside.came
-    (ap (λ (s : ConversationState). s.number) c.listen.ensures.read.read) c.self.invariant
+    let read = c.listen.ensures.read in
+    path_kept _ _ (Reads c.in-Some.number read.reading ∷ []) inside.speaker c.listen.new.self
+    inside.waiting inside.came (ap (λ (s : ConversationState). s.number) read.read)
+    (λ n. refl) read.told c.self.invariant
     (read_kept (g.C.Connections.calls inside.connections) (g.C.Connections.calls c.listen.new.from)
     c.in-Some.number inside.speaker c.listen.new.self inside.waiting inside.came
     (sym c.number.ensures ∙ c.in-Some.is) c.listen.ensures.read c.self.invariant.known)
@@ -28,8 +31,10 @@ decide-requires-clause-ready g c = subst (λ (s : ConversationState). IsReadyIf 
 pub invariant_of-self-in-Bytes : goal.invariant_of-self-in-Bytes
 invariant_of-self-in-Bytes g c =
     let inside = c.self.inside in
-    path_kept _ _ inside.speaker c.listen.new.self inside.waiting inside.came
-    (ap (λ (s : ConversationState). s.number) c.listen.ensures.read.read) c.self.invariant
+    let read = c.listen.ensures.read in
+    path_kept _ _ (Reads c.in-Some.number read.reading ∷ []) inside.speaker c.listen.new.self
+    inside.waiting inside.came (ap (λ (s : ConversationState). s.number) read.read)
+    (λ n. refl) read.told c.self.invariant
     (read_kept (g.C.Connections.calls inside.connections) (g.C.Connections.calls c.listen.new.from)
     c.in-Some.number inside.speaker c.listen.new.self inside.waiting inside.came
     (sym c.number.ensures ∙ c.in-Some.is) c.listen.ensures.read c.self.invariant.known)
@@ -98,3 +103,6 @@ returns-in-Nothing-clause-read g c =
     inside.heard _ _ (hears_none _ inside.heard) (reads_one c.in-Some.number inside.speaker
     c.listen.new.self _ _ (sym c.number.ensures ∙ c.in-Some.is) c.listen.ensures.read)
     c.decide.ensures.heard (c.decide.ensures.stays unwaited))
+
+pub decide-requires-clause-asked : goal.decide-requires-clause-asked
+decide-requires-clause-asked g c = c.listen.ensures.asked c.in-Nothing.is

@@ -1,20 +1,25 @@
-use Rattle.std.proofs.Common.{length, ◌≡◌, [], ◌∷◌, ◌∙◌, ap, sym, subst, Bool, true, inl}
+use Rattle.std.proofs.Common.{length, ◌≡◌, [], ◌∷◌, ◌∙◌, ap, sym, subst, Bool, true, refl}
+use Rattle.std.proofs.Common.{Option, ℕ, false}
+use Rattle.std.proofs.lemmas.Bool.{eq-eqb}
 use Rattle.trdp_lines.specs.Conversations.{ConversationState, conversation_of, is_done, left_of}
 use Rattle.trdp_lines.specs.Lines.{first_line}
+use Rattle.trdp_lines.specs.Paths.{speaks}
 use Rattle.trdp_lines.specs.Said.{HandsIn, applications_say, end_if}
 use Rattle.trdp_lines.proofs.ControlLemmas.{path_begun, path_kept}
 use Rattle.trdp_lines.proofs.ConversationLemmas.{over_past}
-use Rattle.trdp_lines.proofs.HandingLemmas.{front_handed_in}
-use Rattle.trdp_lines.proofs.PlaceLemmas.{proceeds_closed, proceeds_none}
+use Rattle.trdp_lines.proofs.GoingOnLemmas.{never_both}
+use Rattle.trdp_lines.proofs.HandingLemmas.{front_handed_in, tells_nothing}
+use Rattle.trdp_lines.proofs.PlaceLemmas.{left_fate, proceeds_closed, proceeds_none}
 use Rattle.trdp_lines.proofs.ToldLemmas.{begun_kept, end_handed_in, line_kept, line_left_of}
-use Rattle.trdp_lines.proofs.ToldLemmas.{end_next, none_left, nothing_left_of}
+use Rattle.trdp_lines.proofs.ToldLemmas.{end_gone, end_next, none_left, nothing_left_of}
 use Rattle.trdp_lines.proofs.control_path.ControlPath.next_text.Goals as goal
 
 pub invariant_of-self : goal.invariant_of-self
 invariant_of-self g c =
     let inside = c.self.inside in
-    path_kept _ _ inside.speaker c.next_line.new.self inside.waiting inside.came
-    (ap (λ (s : ConversationState). s.number) c.in-Some.ensures.rest) c.self.invariant
+    path_kept _ _ [] inside.speaker c.next_line.new.self inside.waiting inside.came
+    (ap (λ (s : ConversationState). s.number) c.in-Some.ensures.rest) (λ n. refl)
+    (tells_nothing (g.C.Connections.calls inside.connections)) c.self.invariant
     (line_kept (g.C.Connections.calls inside.connections) c.in_ok-number.number inside.speaker
     c.next_line.new.self inside.waiting inside.came (sym c.number.ensures ∙ c.in_ok-number.was)
     c.in-Some.ensures.some c.in-Some.ensures.rest c.self.invariant.known)
@@ -53,9 +58,10 @@ invariant_of-self-2 g c =
     let inside = c.self.inside in
     let done : is_done inside.speaker ≡ true = ap is_done (sym c.in_default.ensures.kept)
     ∙ sym c.is_done.ensures.done ∙ c.if-not-is_done.false in
-    path_begun _ _ inside.speaker c.begin.new.self inside.waiting c.take-next.new.self inside.came
+    path_begun _ _ c.in_ok-number.number inside.speaker c.begin.new.self inside.waiting
+    c.take-next.new.self inside.came (sym c.number.ensures ∙ c.in_ok-number.was)
     (c.begin.ensures ∙ ap conversation_of c.take-next.ensures.value) c.take-next.ensures.after
-    c.self.invariant
+    c.close.ensures.told c.self.invariant
     (begun_kept (g.C.Connections.calls inside.connections) (g.C.Connections.calls c.close.new.self)
     c.in_ok-number.number inside.speaker c.begin.new.self inside.waiting c.take-next.new.self
     inside.came (sym c.number.ensures ∙ c.in_ok-number.was) (over_past inside.speaker done)
@@ -105,4 +111,20 @@ returns-clause-goes_on g c =
     c.begin.new.self inside.waiting c.take-next.new.self inside.came
     (sym c.number.ensures ∙ c.in_ok-number.was)
     (c.begin.ensures ∙ ap conversation_of c.take-next.ensures.value) c.take-next.ensures.after
-    (inl done) c.close.ensures.told c.self.invariant.known)
+    c.close.ensures.told (left_fate _ _ c.in_ok-number.number inside.speaker inside.waiting
+    inside.came (sym c.number.ensures ∙ c.in_ok-number.was) done c.close.ensures.told
+    c.self.invariant.known))
+
+pub returns-in-Some-clause-gone : goal.returns-in-Some-clause-gone
+returns-in-Some-clause-gone g c = λ gone.
+    let n = c.in_ok-number.number in
+    let number = ap (λ (s : ConversationState). s.number) c.in-Some.ensures.rest
+    ∙ sym c.number.ensures ∙ c.in_ok-number.was in
+    never_both (speaks c.next_line.new.self.number n)
+    (ap (λ (o : Option ℕ). speaks o n) number ∙ eq-eqb n n refl) gone
+
+pub returns-clause-gone : goal.returns-clause-gone
+returns-clause-gone g c = end_gone c.in_ok-number.number c.spoke-spoke.result
+    (length c.args.room.now) c.end_line.result c.end_line.new.room
+    (λ n. speaks c.begin.new.self.number n ≡ false)
+    (rw c.in_default.ensures.length at c.end_line.ensures.line)

@@ -26,7 +26,8 @@ loop-place-preserved g c =
       kept = asked.kept ∙ before.kept;
       heard = hears_next _ _ _ _ _ _ before.heard asked.heard;
       asked = asks_more c.args.first c.loop-place.place _ _ _ c.args.self.now.seats
-          c.loop-place.self.seats seats before.asked asked.asked;
+          c.loop-place.self.seats seats (omega arith) before.asked asked.asked;
+      order = inr (omega arith);
       silent = λ k low high. elim (cases_lt k c.loop-place.place) [
         | inl early ↦ asked.others k (before.silent k low early)
         | inr late ↦
@@ -38,7 +39,11 @@ loop-place-preserved g c =
 
 pub returns-clause-asked : goal.returns-clause-asked
 returns-clause-asked g c = asks_within c.args.first c.loop-place.place c.args.end _ _
-    c.args.self.now.seats c.loop-place.self.seats (omega arith) c.loop-place.invariant.asked
+    c.args.self.now.seats c.loop-place.self.seats (omega arith)
+    (elim c.loop-place.invariant.order [
+      | inl empty ↦ inr empty
+      | inr some ↦ inl (omega (arith, some))
+    ]) c.loop-place.invariant.asked
 
 pub returns-in-Some-clause-heard : goal.returns-in-Some-clause-heard
 returns-in-Some-clause-heard g c =

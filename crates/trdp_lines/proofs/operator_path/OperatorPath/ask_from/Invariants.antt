@@ -1,4 +1,4 @@
-use Rattle.std.proofs.Common.{◌≡◌, ℕ, ◌<◌, ◌≤◌, []}
+use Rattle.std.proofs.Common.{◌≡◌, ℕ, ◌<◌, ◌≤◌, ◌⊎◌, []}
 use Rattle.trdp_lines.specs.Askings.{AsksPlaces}
 use Rattle.trdp_lines.specs.Hearings.{Hears}
 use Rattle.trdp_lines.specs.OperatorPaths.{HandsInLines}
@@ -26,6 +26,7 @@ invariant-loop-place g l = record {
       (g.C.Connections.calls l.initial.self.connections)
       (g.C.Connections.calls l.self.connections)
       l.initial.self.seats l.self.seats;
+  order : (l.place ≤ l.first) ⊎ (l.place ≤ l.end);
   silent : (k : ℕ) → l.first ≤ k → k < l.place → IsSilentAt l.self.seats k;
   others : StaySilent l.initial.self.seats l.self.seats;
 }

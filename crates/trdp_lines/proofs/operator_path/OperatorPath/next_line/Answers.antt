@@ -26,7 +26,7 @@ returns-clause-goes_on g c = goes_on_next _ _ _ c.args.self.now.seats c.ask_from
 pub returns-clause-asked : goal.returns-clause-asked
 returns-clause-asked g c = if_none_then c.ask_from-2.result (asks_round c.self.inside.next _ _ _
     c.args.self.now.seats c.ask_from.new.self.seats c.ask_from-2.new.self.seats
-    c.in_default.ensures.asked) c.ask_from-2.ensures.asked
+    c.self.invariant.order c.in_default.ensures.asked) c.ask_from-2.ensures.asked
 
 pub returns-clause-heard : goal.returns-clause-heard
 returns-clause-heard g c = hears_more _ _ _ (is_some c.ask_from-2.result) _ _ _
