@@ -8,9 +8,9 @@ use Rattle.std.proofs.lemmas.List.{map-append}
 use Rattle.std.specs.Prelude.{Result, Ok, Err, slice_get, unwrap_or}
 use Rattle.std.specs.List.{flat_map}
 use Rattle.std.specs.Result.{IsErrAnd}
-use Rattle.trdp_daemon.specs.Sockets.{fault_of}
-use Rattle.trdp_daemon.specs.Told.{TellsMore}
-use Rattle.trdp_daemon.proofs.LinkLemmas.{adds_none, adds_both}
+use Rattle.trdp_wire.specs.Sockets.{fault_of}
+use Rattle.trdp_wire.specs.Told.{TellsMore}
+use Rattle.trdp_wire.proofs.ToldLemmas.{adds_none, adds_both}
 use Rattle.trdp_controls.specs.Folders.{Listening, ListensAt, granted, file_unless_0, file_of}
 use Rattle.trdp_controls.specs.Folders.{refusal_of, StopsListening, ListensInTurn}
 use Rattle.trdp_controls.specs.declared.listen_fault.ListenFault.{ListenFault}

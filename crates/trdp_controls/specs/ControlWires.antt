@@ -10,12 +10,12 @@ use Rattle.trdp_lines.specs.OperatorPaths.{HandsInNextLine, OperatorState, SaysT
 use Rattle.trdp_lines.specs.Paths.{HandsInNext, PathState, SaysTo, left_at, speaks}
 use Rattle.trdp_lines.specs.declared.path_fault.AcceptFault.{AcceptFault}
 use Rattle.trdp_lines.specs.declared.path_fault.LostText.{LostText}
-use Rattle.trdp_daemon.specs.declared.fault.WireFault.{WireFault}
-use Rattle.trdp_daemon.specs.declared.port.Port.{Port}
-use Rattle.trdp_daemon.specs.declared.port.Port.TheVariants.{Pd, Md, PdGroup, MdGroup}
-use Rattle.trdp_daemon.specs.declared.port.Port.TheVariants.{Operator, Control}
+use Rattle.trdp_wire.specs.declared.fault.WireFault.{WireFault}
+use Rattle.trdp_wire.specs.declared.port.Port.{Port}
+use Rattle.trdp_wire.specs.declared.port.Port.TheVariants.{Pd, Md, PdGroup, MdGroup}
+use Rattle.trdp_wire.specs.declared.port.Port.TheVariants.{Operator, Control}
 use Rattle.trdp_controls.specs.declared.control_wire.ControlWire.{ControlWire}
-use Rattle.trdp_daemon.specs.Told.{TellsMore, Give, Taking, give_of, taking_of}
+use Rattle.trdp_wire.specs.Told.{TellsMore, Give, Taking, give_of, taking_of}
 use Rattle.trdp_controls.specs.Places.{number_of_place, place_of_number}
 
 -- what was found at a take; a fault is nothing

@@ -6,8 +6,8 @@ use Rattle.std.specs.Option.{option_map}
 use Rattle.trdp_lines.specs.OperatorPaths.{OperatorState}
 use Rattle.trdp_lines.specs.Paths.{PathState}
 use Rattle.trdp_dataset.specs.Configs.{ConfigModel}
-use Rattle.trdp_daemon.specs.Ports.{control_numbers}
-use Rattle.trdp_daemon.specs.Told.{TellsMore}
+use Rattle.trdp_wire.specs.Ports.{control_numbers}
+use Rattle.trdp_wire.specs.Told.{TellsMore}
 use Rattle.trdp_controls.specs.declared.listen_fault.ListenFault.{ListenFault}
 use Rattle.trdp_controls.specs.declared.listen_fault.ListenFault.TheVariants.{OutOfMemory}
 

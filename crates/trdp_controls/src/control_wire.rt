@@ -12,8 +12,8 @@ use crate::path_calls::{
     operators_accept_error, take_line, take_operators_line,
 };
 use trdp_base::Place;
-use trdp_daemon::{Missing, Port, Refusal, SocketFault, Unread, Wire, WireFault, fail};
 use trdp_lines::{Connections, ControlPath, OperatorPath};
+use trdp_wire::{Missing, Port, Refusal, SocketFault, Unread, Wire, WireFault, fail};
 
 /// The system's number of its error where there is no room for what is to go out (ENOBUFS).
 const NO_BUFFER_SPACE: i32 = 105;
@@ -45,7 +45,7 @@ impl<N: Wire, C: Connections> ControlWire<N, C> {
     ghost use Rattle.std.specs.Prelude.{◌≡◌, ◌<◌, ◌≤◌, ◌-◌, ◌^◌, length, IfOk, IfSome, OnErr};
     ghost use Rattle.std.specs.Prelude.{is_err, nat_lt, None, Some, OnOk};
     ghost use Rattle.std.specs.Option.{option_map};
-    ghost use Rattle.trdp_daemon.specs.declared.port.Port.TheVariants.{Control, Operator};
+    ghost use Rattle.trdp_wire.specs.declared.port.Port.TheVariants.{Control, Operator};
     ghost use Rattle.trdp_controls.specs.ControlWires.{GivesAtControl, GivesAtOperator};
     ghost use Rattle.trdp_controls.specs.ControlWires.{GivesOverNetwork, TakesAtControl};
     ghost use Rattle.trdp_controls.specs.ControlWires.{IsUnasked, TakesAtOperator};

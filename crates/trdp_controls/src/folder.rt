@@ -1,8 +1,8 @@
 //! The folder of the paths.
 
 ghost use Rattle.std.specs.Prelude.{◌≡◌, [], ◌∷◌, IfOk, IfSome};
-ghost use Rattle.trdp_daemon.specs.Sockets.{fault_of};
-ghost use Rattle.trdp_daemon.specs.Told.{TellsMore};
+ghost use Rattle.trdp_wire.specs.Sockets.{fault_of};
+ghost use Rattle.trdp_wire.specs.Told.{TellsMore};
 ghost use Rattle.trdp_controls.specs.Folders.{ListensAt};
 
 use crate::listen_fault::ListenFault;

@@ -4,8 +4,8 @@
 ghost use Rattle.std.specs.Prelude.{◌≡◌, ◌∷◌, [], ◌++◌, map, IfOk, IfSome, OnOk};
 ghost use Rattle.std.specs.Option.{option_map};
 ghost use Rattle.std.specs.List.{flat_map};
-ghost use Rattle.trdp_daemon.specs.Ports.{control_numbers};
-ghost use Rattle.trdp_daemon.specs.Sockets.{fault_of};
+ghost use Rattle.trdp_wire.specs.Ports.{control_numbers};
+ghost use Rattle.trdp_wire.specs.Sockets.{fault_of};
 ghost use Rattle.trdp_controls.specs.Folders.{ListensInTurn, file_unless_0, number_of_operator};
 ghost use Rattle.trdp_controls.specs.Folders.{number_of_path, number_unless_0, numbers_of};
 
@@ -13,14 +13,14 @@ use crate::control_wire::ControlWire;
 use crate::folder::Folder;
 use crate::listen_fault::ListenFault;
 use std::alloc::Global;
-use trdp_daemon::{Groups, Port, Wire, control_number};
 use trdp_dataset::NodeConfig;
 use trdp_lines::{Connections, ControlPath, OperatorPath};
+use trdp_wire::{Groups, Port, Wire, control_number};
 
 impl<N: Wire + Drop, C: Connections + Drop> ControlWire<N, C> {
     ghost use Rattle.std.specs.Prelude.{◌≡◌, map, IfOk};
-    ghost use Rattle.trdp_daemon.specs.Ports.{control_numbers};
-    ghost use Rattle.trdp_daemon.specs.Sockets.{fault_of};
+    ghost use Rattle.trdp_wire.specs.Ports.{control_numbers};
+    ghost use Rattle.trdp_wire.specs.Sockets.{fault_of};
     ghost use Rattle.trdp_controls.specs.Folders.{ListensInTurn, files_of, number_of_operator};
     ghost use Rattle.trdp_controls.specs.Folders.{number_unless_0, numbers_of};
 

@@ -9,8 +9,8 @@ ghost use Rattle.trdp_controls.specs.ControlWires.{TakesAtOperator, TakesAtPath,
 
 use crate::place::{number_of, place_of};
 use trdp_base::Place;
-use trdp_daemon::{Missing, WireFault, fail};
 use trdp_lines::{AcceptFault, Connections, ControlPath, LostText, OperatorPath};
+use trdp_wire::{Missing, WireFault, fail};
 
 /// What a take that failed finds: nothing, and the failure is counted.
 ///

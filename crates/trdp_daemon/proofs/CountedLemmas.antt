@@ -10,9 +10,8 @@ use Rattle.std.proofs.lemmas.List.{drop-append-le, take-append-drop}
 use Rattle.std.proofs.lemmas.List.Concat.{flat_map-cons}
 use Rattle.trdp_daemon.specs.declared.link.Link.{Link}
 use Rattle.trdp_daemon.specs.declared.totals.Totals.{Totals}
-use Rattle.trdp_daemon.specs.Told.{Taking, Give, Offer}
-use Rattle.trdp_daemon.specs.Counted.{counted_with, VisitsCounted, TurnCounted}
-use Rattle.trdp_daemon.specs.Counted.{TurnsCounted}
+use Rattle.trdp_wire.specs.Told.{Taking, Give, Offer}
+use Rattle.trdp_daemon.specs.Counted.{counted_with, VisitsCounted, TurnCounted, TurnsCounted}
 use Rattle.trdp_daemon.specs.Counting.{totals_after}
 use Rattle.trdp_daemon.specs.Effects.{ServiceState, Telling}
 use Rattle.trdp_daemon.specs.Links.{Carries}

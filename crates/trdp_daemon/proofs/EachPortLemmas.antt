@@ -11,16 +11,16 @@ use Rattle.std.proofs.lemmas.List.Elements.{All-cons, All-nil}
 use Rattle.trdp_dataset.specs.Configs.{ConfigModel}
 use Rattle.trdp_model.specs.NodeModels.{NodeModel}
 use Rattle.trdp_model.specs.Slots.{empty_slot}
-use Rattle.trdp_daemon.specs.declared.port.Port.{Port}
-use Rattle.trdp_daemon.specs.declared.port.Port.TheVariants.{Pd, Md, PdGroup, MdGroup}
-use Rattle.trdp_daemon.specs.declared.port.Port.TheVariants.{Operator, Control}
+use Rattle.trdp_wire.specs.declared.port.Port.{Port}
+use Rattle.trdp_wire.specs.declared.port.Port.TheVariants.{Pd, Md, PdGroup, MdGroup}
+use Rattle.trdp_wire.specs.declared.port.Port.TheVariants.{Operator, Control}
 use Rattle.trdp_daemon.specs.Effects.{ServiceState}
-use Rattle.trdp_daemon.specs.Ports.{port_unless_0, control_numbers, control_ports, ports_of}
-use Rattle.trdp_daemon.specs.Ports.{group_ports, line_ports, network_ports}
+use Rattle.trdp_wire.specs.Ports.{port_unless_0, control_numbers, control_ports, ports_of}
+use Rattle.trdp_wire.specs.Ports.{group_ports, line_ports, network_ports}
 use Rattle.trdp_daemon.specs.Turns.{Visit, visit_effect, Turn, turn_effect, moment_effect, is_there}
 use Rattle.trdp_daemon.specs.Turns.{port_and_room, with_room, TakesFirst, TakesAt, TakesAtEach}
 use Rattle.trdp_daemon.specs.Turns.{AllTakeAt, opened_service}
-use Rattle.trdp_daemon.proofs.ControlPortLemmas.{numbers_count}
+use Rattle.trdp_wire.proofs.ControlPortLemmas.{numbers_count}
 use Rattle.trdp_daemon.proofs.OpenSlotLemmas.{visit_keeps, moment_keeps, turn_keeps}
 
 -- each of these ports is there

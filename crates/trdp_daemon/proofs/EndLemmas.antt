@@ -14,9 +14,9 @@ use Rattle.trdp_model.specs.NodeModels.{NodeModel}
 use Rattle.trdp_model.specs.Records.{Content, Answers, DoneIs, RecordModel, labelled}
 use Rattle.trdp_model.specs.Slots.{SlotState}
 use Rattle.trdp_daemon.specs.declared.contact.Contact.{Contact}
-use Rattle.trdp_daemon.specs.declared.port.Port.{Port}
-use Rattle.trdp_daemon.specs.declared.port.Port.TheVariants.{Pd, Md, PdGroup, MdGroup}
-use Rattle.trdp_daemon.specs.declared.port.Port.TheVariants.{Operator, Control}
+use Rattle.trdp_wire.specs.declared.port.Port.{Port}
+use Rattle.trdp_wire.specs.declared.port.Port.TheVariants.{Pd, Md, PdGroup, MdGroup}
+use Rattle.trdp_wire.specs.declared.port.Port.TheVariants.{Operator, Control}
 use Rattle.trdp_daemon.specs.Effects.{ServiceState, Loss, LineLost, EventLost, TextsLost, silence}
 use Rattle.trdp_daemon.specs.Effects.{both, contact_of, content_telling, event_effect}
 use Rattle.trdp_daemon.specs.Effects.{event_records, is_first_lost, later_marks, may_take_memory}

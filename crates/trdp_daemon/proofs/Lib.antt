@@ -11,15 +11,7 @@ pub mod EachPortLemmas
 pub mod DaemonLemmas
 pub mod ResetLemmas
 pub mod RestLemmas
-pub mod SocketLemmas
-pub mod SocketWireLemmas
-pub mod ControlPortLemmas
-pub mod GroupPortLemmas
 pub mod CountedLemmas
-pub mod GiveRowLemmas
 pub mod LossLemmas
 pub mod SilenceLemmas
 pub mod EndLemmas
-pub mod TakeRowLemmas
-pub mod MemoryWireLemmas
-pub mod RestingWireLemmas

@@ -25,7 +25,7 @@ use Rattle.trdp_text.specs.PortLines.{control_line_of, operator_line_of}
 use Rattle.trdp_text.proofs.ReadLemmas.Ports.{IsOperators}
 use Rattle.trdp_text.proofs.ReadLemmas.OperatorLines.{SaysOperators, operators_line}
 use Rattle.trdp_model.specs.NodeModels.{node_after}
-use Rattle.trdp_daemon.specs.declared.port.Port.TheVariants.{Operator, Control}
+use Rattle.trdp_wire.specs.declared.port.Port.TheVariants.{Operator, Control}
 use Rattle.trdp_daemon.specs.declared.totals.Totals.{Totals}
 use Rattle.trdp_daemon.specs.Effects.{ServiceState, Loss, LineLost, EventLost, TextsLost}
 use Rattle.trdp_daemon.specs.Effects.{event_effect, event_records, event_taken, missing}

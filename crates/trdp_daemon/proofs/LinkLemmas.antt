@@ -2,28 +2,18 @@
 -- For `Link::miss`, and for all lemmas on visits, turns and tellings.
 -- By: what is carried by two things one after another is both of it, in that order.
 use Rattle.std.proofs.Common.{◌≡◌, zero, suc, ◌+◌, ◌-◌, ◌^◌, min, ℕ, Bool, List, []}
-use Rattle.std.proofs.Common.{◌++◌, length, map, Option, Some, None, refl, sym, ◌∙◌}
-use Rattle.std.proofs.Common.{ap, subst, arith, append_assoc, append-nil, length-append}
+use Rattle.std.proofs.Common.{◌++◌, length, map, Option, refl, sym, ◌∙◌}
+use Rattle.std.proofs.Common.{ap, subst, arith, length-append}
 use Rattle.std.specs.Prelude.{filter}
 use Rattle.std.proofs.lemmas.List.{map-append}
 use Rattle.std.proofs.lemmas.List.Elements.{filter-append}
+use Rattle.trdp_wire.proofs.ToldLemmas.{adds_none, adds_both}
 use Rattle.trdp_daemon.specs.declared.link.Link.{Link}
 use Rattle.trdp_daemon.specs.declared.totals.Totals.{Totals}
-use Rattle.trdp_daemon.specs.Told.{TellsMore, Taking, Give}
-use Rattle.trdp_daemon.specs.Counting.{counted, totals_after, has_come, has_failed}
+use Rattle.trdp_wire.specs.Told.{TellsMore, Taking, Give, has_come, has_failed}
+use Rattle.trdp_daemon.specs.Counting.{counted, totals_after}
 use Rattle.trdp_daemon.specs.Effects.{Telling, silence, both}
 use Rattle.trdp_daemon.specs.Links.{Carries}
-
-pub adds_none : {X : Type 0} (told : Option (List X)) → TellsMore told told []
-adds_none None = tt
-adds_none (Some xs) = sym (append-nil xs)
-
-pub adds_both : {X : Type 0} (a b c : Option (List X)) (xs ys : List X)
-    → TellsMore a b xs → TellsMore b c ys → TellsMore a c (xs ++ ys)
-adds_both a b None xs ys p q = tt
-adds_both a None (Some zs) xs ys p q = absurd q
-adds_both None (Some ws) (Some zs) xs ys p q = absurd p
-adds_both (Some vs) (Some ws) (Some zs) xs ys p q = q ∙ ap (λ l. l ++ ys) p ∙ append_assoc vs xs ys
 
 counted_both : (n a b : ℕ) → counted (counted n a) b ≡ counted n (a + b)
 counted_both n zero b = let same : b ≡ 0 + b = omega arith in ap (counted n) same

@@ -11,12 +11,12 @@ use Rattle.trdp_text.specs.declared.fault.LineFault.{LineFault}
 use Rattle.trdp_text.specs.PortLines.{OperatorSays, Orders, Asks}
 use Rattle.trdp_text.specs.PortLines.{control_line_of, operator_line_of}
 use Rattle.trdp_text.specs.RecordText.{text_of_record}
-use Rattle.trdp_daemon.specs.declared.port.Port.{Port}
-use Rattle.trdp_daemon.specs.declared.port.Port.TheVariants.{Pd, Md, PdGroup, MdGroup}
-use Rattle.trdp_daemon.specs.declared.port.Port.TheVariants.{Operator, Control}
+use Rattle.trdp_wire.specs.declared.port.Port.{Port}
+use Rattle.trdp_wire.specs.declared.port.Port.TheVariants.{Pd, Md, PdGroup, MdGroup}
+use Rattle.trdp_wire.specs.declared.port.Port.TheVariants.{Operator, Control}
 use Rattle.trdp_daemon.specs.declared.contact.Contact.{Contact}
 use Rattle.trdp_daemon.specs.declared.totals.Totals.{Totals}
-use Rattle.trdp_daemon.specs.Told.{Arrived, Failed, Nothing, Came}
+use Rattle.trdp_wire.specs.Told.{Arrived, Failed, Nothing, Came}
 use Rattle.trdp_daemon.specs.Effects.{both, text_telling, control_place, content_telling}
 use Rattle.trdp_daemon.specs.Effects.{record_telling, is_first_lost, later_marks, records_telling}
 use Rattle.trdp_daemon.specs.Effects.{event_records, ServiceState, Loss, LineLost, EventLost}

@@ -17,11 +17,11 @@ use Rattle.trdp_text.specs.PortLines.{OperatorSays, Orders, Asks}
 use Rattle.trdp_text.specs.PortLines.{control_line_of, operator_line_of}
 use Rattle.trdp_model.specs.NodeModels.{node_unless, slots_after}
 use Rattle.trdp_text.specs.declared.fault.LineFault.{LineFault}
-use Rattle.trdp_daemon.specs.declared.port.Port.{Port}
-use Rattle.trdp_daemon.specs.declared.port.Port.TheVariants.{Pd, Md, PdGroup, MdGroup}
-use Rattle.trdp_daemon.specs.declared.port.Port.TheVariants.{Operator, Control}
+use Rattle.trdp_wire.specs.declared.port.Port.{Port}
+use Rattle.trdp_wire.specs.declared.port.Port.TheVariants.{Pd, Md, PdGroup, MdGroup}
+use Rattle.trdp_wire.specs.declared.port.Port.TheVariants.{Operator, Control}
 use Rattle.trdp_daemon.specs.declared.totals.Totals.{Totals}
-use Rattle.trdp_daemon.specs.Told.{Arrived, Failed, Nothing, Came}
+use Rattle.trdp_wire.specs.Told.{Arrived, Failed, Nothing, Came}
 use Rattle.trdp_daemon.specs.Effects.{ServiceState, Effect, Loss, LineLost, EventLost, TextsLost}
 use Rattle.trdp_daemon.specs.Effects.{event_effect, event_taken, may_take_memory, missing}
 use Rattle.trdp_daemon.specs.Effects.{telling_only, still}

@@ -8,16 +8,15 @@ use Rattle.std.specs.List.{list_any, flat_map}
 use Rattle.std.proofs.lemmas.List.{map-append}
 use Rattle.std.proofs.lemmas.List.Folds.{list_any-append}
 use Rattle.trdp_dataset.specs.Configs.{ConfigModel}
-use Rattle.trdp_daemon.specs.Told.{TellsMore, Taking, Give}
+use Rattle.trdp_wire.specs.Told.{TellsMore, Taking, Give}
 use Rattle.trdp_daemon.specs.Daemons.{DaemonState, TakesTurns, HasServed}
 use Rattle.trdp_daemon.specs.Turns.{Turn, takings_of}
 use Rattle.trdp_daemon.specs.Resting.{Rests, TakesTurnAt, TakesEarly, TakesLast, AttendsUntil}
-use Rattle.trdp_daemon.specs.Resting.{RestsBehind, ServesUntil, reading_behind}
-use Rattle.trdp_daemon.specs.Resting.{last_reading}
+use Rattle.trdp_daemon.specs.Resting.{RestsBehind, ServesUntil, reading_behind, last_reading}
 use Rattle.trdp_daemon.specs.declared.link.Link.{Link}
-use Rattle.trdp_daemon.specs.declared.port.Port.{Port}
+use Rattle.trdp_wire.specs.declared.port.Port.{Port}
 use Rattle.trdp_daemon.specs.declared.service.Service.{Service}
-use Rattle.trdp_daemon.specs.Ports.{ports_of}
+use Rattle.trdp_wire.specs.Ports.{ports_of}
 use Rattle.trdp_daemon.specs.Services.{TakesTurn}
 use Rattle.trdp_daemon.proofs.DaemonLemmas.{daemon_of, one_turn, no_turns, turns_both, served_on}
 use Rattle.trdp_daemon.proofs.DaemonLemmas.{served, from_first}

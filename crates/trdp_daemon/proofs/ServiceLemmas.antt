@@ -19,14 +19,14 @@ use Rattle.trdp_outbox.proofs.SlotOrderLemmas.Slots.{from_zero}
 use Rattle.trdp_daemon.specs.declared.contact.Contact.{Contact}
 use Rattle.trdp_daemon.specs.declared.link.Link.{Link}
 use Rattle.trdp_daemon.specs.declared.service.Service.{Service}
-use Rattle.trdp_daemon.specs.Told.{Taking, Give}
+use Rattle.trdp_wire.specs.Told.{Taking, Give}
 use Rattle.trdp_daemon.specs.Effects.{ServiceState, Effect, Loss, LineLost, EventLost, TextsLost}
 use Rattle.trdp_daemon.specs.Effects.{event_effect, is_reset, texts_lost}
 use Rattle.trdp_daemon.specs.Effects.{event_records, event_taken, lost_or, may_take_memory}
 use Rattle.trdp_daemon.specs.Effects.{missing, offering, records_telling, telling_only}
 use Rattle.trdp_daemon.specs.Links.{Carries}
 use Rattle.trdp_daemon.specs.Tellings.{Tells}
-use Rattle.trdp_daemon.specs.declared.port.Port.TheVariants.{Operator}
+use Rattle.trdp_wire.specs.declared.port.Port.TheVariants.{Operator}
 use Rattle.trdp_daemon.specs.Visits.{operator_event, operator_taken, operator_text}
 use Rattle.trdp_daemon.proofs.LinkLemmas.{carries_both}
 use Rattle.trdp_daemon.specs.Services.{Comes, ComesTold, ComesWith, service_state}

@@ -14,11 +14,11 @@ use Rattle.trdp_text.specs.PortLines.{OperatorSays, Orders, Asks}
 use Rattle.trdp_text.specs.PortLines.{control_line_of, operator_line_of}
 use Rattle.trdp_text.specs.declared.fault.LineFault.{LineFault}
 use Rattle.trdp_daemon.specs.declared.contact.Contact.{Contact}
-use Rattle.trdp_daemon.specs.declared.port.Port.{Port}
-use Rattle.trdp_daemon.specs.declared.port.Port.TheVariants.{Pd, Md, PdGroup, MdGroup}
-use Rattle.trdp_daemon.specs.declared.port.Port.TheVariants.{Operator, Control}
+use Rattle.trdp_wire.specs.declared.port.Port.{Port}
+use Rattle.trdp_wire.specs.declared.port.Port.TheVariants.{Pd, Md, PdGroup, MdGroup}
+use Rattle.trdp_wire.specs.declared.port.Port.TheVariants.{Operator, Control}
 use Rattle.trdp_daemon.specs.declared.totals.Totals.{Totals}
-use Rattle.trdp_daemon.specs.Told.{Arrived, Failed, Nothing, Came}
+use Rattle.trdp_wire.specs.Told.{Arrived, Failed, Nothing, Came}
 use Rattle.trdp_daemon.specs.Effects.{ServiceState, Effect, Loss, LineLost, EventLost, TextsLost}
 use Rattle.trdp_daemon.specs.Effects.{contact_of, event_effect, event_taken, may_take_memory}
 use Rattle.trdp_daemon.specs.Effects.{missing, read_again, still, telling_only}
@@ -30,8 +30,7 @@ use Rattle.trdp_daemon.specs.Turns.{Visit, visit_effect, visits_effect, Turn, tu
 use Rattle.trdp_daemon.specs.Turns.{begun, moment_effect, moment_of}
 use Rattle.trdp_daemon.specs.Visits.{operator_event, operator_effect, operator_taken, heard_from}
 use Rattle.trdp_daemon.specs.Visits.{came_effect, control_event, control_effect, datagram_effect}
-use Rattle.trdp_daemon.specs.Visits.{taking_effect}
-use Rattle.trdp_daemon.specs.Visits.{contact_from, lives_still}
+use Rattle.trdp_daemon.specs.Visits.{taking_effect, contact_from, lives_still}
 
 -- a slot whose latest line is forgotten has none
 pub none_there : (contacts : List (Option Contact)) (slot : ℕ)

@@ -9,10 +9,10 @@ use Rattle.trdp_model.specs.declared.record.Protocol.{Protocol}
 use Rattle.trdp_model.specs.Records.{RecordModel, Content, Answers, Indicates}
 use Rattle.trdp_model.specs.Records.{Sends, AnswerModel, IndicationModel}
 use Rattle.trdp_text.specs.RecordText.{text_of_record}
-use Rattle.trdp_daemon.specs.declared.port.Port.TheVariants.{Control}
+use Rattle.trdp_wire.specs.declared.port.Port.TheVariants.{Control}
 use Rattle.trdp_daemon.specs.declared.contact.Contact.{Contact}
 use Rattle.trdp_daemon.specs.declared.link.Link.{Link}
-use Rattle.trdp_daemon.specs.Told.{Taking, Give}
+use Rattle.trdp_wire.specs.Told.{Taking, Give}
 use Rattle.trdp_daemon.specs.Effects.{Telling, silence, both, missing, offering}
 use Rattle.trdp_daemon.specs.Effects.{text_telling, content_telling, port_of}
 use Rattle.trdp_daemon.specs.Effects.{control_place, record_telling, records_telling}

@@ -9,11 +9,11 @@ use Rattle.trdp_engine.specs.NodeStates.{uncounted}
 use Rattle.trdp_daemon.specs.declared.link.Link.{Link}
 use Rattle.trdp_model.specs.Events.{EventModel}
 use Rattle.trdp_model.specs.NodeModels.{NodeModel}
-use Rattle.trdp_daemon.specs.declared.port.Port.{Port}
-use Rattle.trdp_daemon.specs.declared.port.Port.TheVariants.{Pd, Md, PdGroup, MdGroup}
-use Rattle.trdp_daemon.specs.declared.port.Port.TheVariants.{Operator, Control}
+use Rattle.trdp_wire.specs.declared.port.Port.{Port}
+use Rattle.trdp_wire.specs.declared.port.Port.TheVariants.{Pd, Md, PdGroup, MdGroup}
+use Rattle.trdp_wire.specs.declared.port.Port.TheVariants.{Operator, Control}
 use Rattle.trdp_daemon.specs.declared.service.Service.{Service}
-use Rattle.trdp_daemon.specs.Told.{Taking, Give}
+use Rattle.trdp_wire.specs.Told.{Taking, Give}
 use Rattle.trdp_daemon.specs.Effects.{ServiceState, Effect, Telling, both}
 use Rattle.trdp_daemon.specs.Effects.{still, then_effect, event_effect}
 use Rattle.trdp_daemon.specs.Services.{Comes, ComesWith, TakesOnce, TakesAtPorts, TakesTurn}

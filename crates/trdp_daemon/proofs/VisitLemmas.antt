@@ -17,15 +17,15 @@ use Rattle.trdp_text.specs.declared.operator_line.OperatorLine.{OperatorLine}
 use Rattle.trdp_text.specs.declared.operator_line.Question.{Question}
 use Rattle.trdp_text.specs.PortLines.{OperatorSays, Orders, Asks, operator_line_model}
 use Rattle.trdp_text.specs.PortLines.{control_line_of, operator_line_of}
-use Rattle.trdp_daemon.specs.declared.fault.WireFault.{WireFault}
+use Rattle.trdp_wire.specs.declared.fault.WireFault.{WireFault}
 use Rattle.trdp_daemon.specs.declared.link.Link.{Link}
-use Rattle.trdp_daemon.specs.declared.port.Port.{Port}
-use Rattle.trdp_daemon.specs.declared.port.Port.TheVariants.{Pd, Md, PdGroup, MdGroup}
-use Rattle.trdp_daemon.specs.declared.port.Port.TheVariants.{Operator, Control}
+use Rattle.trdp_wire.specs.declared.port.Port.{Port}
+use Rattle.trdp_wire.specs.declared.port.Port.TheVariants.{Pd, Md, PdGroup, MdGroup}
+use Rattle.trdp_wire.specs.declared.port.Port.TheVariants.{Operator, Control}
 use Rattle.trdp_daemon.specs.declared.service.Service.{Service}
 use Rattle.trdp_daemon.specs.declared.totals.Totals.{Totals}
 use Rattle.trdp_daemon.specs.Counting.{totals_after}
-use Rattle.trdp_daemon.specs.Told.{Taking, Give, arrived_in, stands_for_end, taking_of}
+use Rattle.trdp_wire.specs.Told.{Taking, Give, arrived_in, stands_for_end, taking_of}
 use Rattle.trdp_daemon.specs.Effects.{ServiceState, Loss, LineLost, EventLost, TextsLost}
 use Rattle.trdp_daemon.specs.Effects.{Effect, Telling, silence, missing, event_effect, still}
 use Rattle.trdp_daemon.specs.Leases.{quiet_effect}
@@ -35,7 +35,7 @@ use Rattle.trdp_daemon.specs.Turns.{Visit, visit_effect, take_room}
 use Rattle.trdp_daemon.specs.Visits.{fault_telling, operator_event, operator_effect}
 use Rattle.trdp_daemon.specs.Visits.{question_effect, telegram_effect}
 use Rattle.trdp_daemon.specs.Visits.{line_lost_or, lives_still, control_effect, control_event}
-use Rattle.trdp_daemon.specs.Ports.{group_place, place_of_port}
+use Rattle.trdp_wire.specs.Ports.{group_place, place_of_port}
 use Rattle.trdp_daemon.specs.Visits.{came_effect, datagram_effect, taking_effect, heard_from}
 use Rattle.trdp_daemon.proofs.LinkLemmas.{carries_none, carries_both}
 use Rattle.trdp_daemon.proofs.TellingLemmas.{silence_both}

@@ -3,7 +3,7 @@ use Rattle.std.specs.Prelude.{◌≡◌, List, [], ◌∷◌, length, take, drop
 use Rattle.trdp_daemon.specs.declared.totals.Totals.{Totals}
 use Rattle.trdp_daemon.specs.Counting.{totals_after}
 use Rattle.trdp_daemon.specs.Effects.{ServiceState, Effect}
-use Rattle.trdp_daemon.specs.Told.{Taking, Give}
+use Rattle.trdp_wire.specs.Told.{Taking, Give}
 use Rattle.trdp_daemon.specs.Turns.{Visit, visit_effect, Turn, moment_effect, turn_effect}
 use Rattle.trdp_daemon.specs.Turns.{takings_of}
 

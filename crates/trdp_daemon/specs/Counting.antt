@@ -1,8 +1,7 @@
 -- What the totals count.
-use Rattle.std.specs.Prelude.{ℕ, zero, suc, ◌+◌, ◌-◌, ◌^◌, min, List, length, filter, Bool, true}
-use Rattle.std.specs.Prelude.{false}
+use Rattle.std.specs.Prelude.{ℕ, zero, suc, ◌+◌, ◌-◌, ◌^◌, min, List, length, filter}
 use Rattle.trdp_daemon.specs.declared.totals.Totals.{Totals}
-use Rattle.trdp_daemon.specs.Told.{Arrived, Failed, Nothing, Came, Taking, Give}
+use Rattle.trdp_wire.specs.Told.{Taking, Give, has_come, has_failed}
 
 -- a count that is that much higher, one by one; it stops at 2^64 - 1
 abbrev pub counted : ℕ → ℕ → ℕ
@@ -12,18 +11,6 @@ counted n (suc more) = counted (min (n + 1) (2 ^ 64 - 1)) more
 -- nothing was counted
 abbrev pub no_totals : Totals
 no_totals = record { taken = 0; offered = 0; lost = 0; unread = 0; memory = 0 }
-
--- a datagram came
-abbrev pub has_come : Arrived → Bool
-has_come Failed = false
-has_come Nothing = false
-has_come (Came from bytes) = true
-
--- the wire failed
-abbrev pub has_failed : Arrived → Bool
-has_failed Failed = true
-has_failed Nothing = false
-has_failed (Came from bytes) = false
 
 -- how many datagrams came at these takes
 abbrev pub datagrams_in : List Taking → ℕ

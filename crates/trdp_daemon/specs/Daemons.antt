@@ -3,11 +3,11 @@ use Rattle.std.specs.Prelude.{◌≡◌, ℕ, List, Option, length, map}
 use Rattle.std.specs.List.{flat_map}
 use Rattle.trdp_dataset.specs.Configs.{ConfigModel}
 use Rattle.trdp_daemon.specs.declared.totals.Totals.{Totals}
-use Rattle.trdp_daemon.specs.Told.{TellsMore, Taking, Give}
+use Rattle.trdp_wire.specs.Told.{TellsMore, Taking, Give}
 use Rattle.trdp_daemon.specs.Counted.{TurnsCounted}
 use Rattle.trdp_daemon.specs.Counting.{no_totals, totals_after}
 use Rattle.trdp_daemon.specs.Effects.{ServiceState}
-use Rattle.trdp_daemon.specs.Ports.{ports_of}
+use Rattle.trdp_wire.specs.Ports.{ports_of}
 use Rattle.trdp_daemon.specs.Turns.{Turn, AllTakeAt, takings_of, turns_effect, opened_service}
 use Rattle.trdp_daemon.specs.Turns.{offers_of, missed_of}
 

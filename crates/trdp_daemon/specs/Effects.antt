@@ -22,9 +22,9 @@ use Rattle.trdp_model.specs.Slots.{SlotState}
 use Rattle.trdp_text.specs.RecordText.{text_of_record}
 use Rattle.trdp_model.specs.NodeModels.{node_after}
 use Rattle.trdp_daemon.specs.declared.contact.Contact.{Contact}
-use Rattle.trdp_daemon.specs.declared.port.Port.{Port}
-use Rattle.trdp_daemon.specs.declared.port.Port.TheVariants.{Pd, Md, Control}
-use Rattle.trdp_daemon.specs.Told.{Offer, offer_to}
+use Rattle.trdp_wire.specs.declared.port.Port.{Port}
+use Rattle.trdp_wire.specs.declared.port.Port.TheVariants.{Pd, Md, Control}
+use Rattle.trdp_wire.specs.Told.{Offer, offer_to}
 
 -- what is offered, and how many entries were lost where an allocation failed
 pub record Telling : Type 0 where

@@ -5,7 +5,7 @@ use Rattle.std.specs.List.{list_any}
 use Rattle.trdp_dataset.specs.Configs.{ConfigModel}
 use Rattle.trdp_model.specs.NodeModels.{IsNextDue}
 use Rattle.trdp_model.specs.Slots.{SlotState}
-use Rattle.trdp_daemon.specs.Told.{Taking, Give}
+use Rattle.trdp_wire.specs.Told.{Taking, Give}
 use Rattle.trdp_daemon.specs.Turns.{Turn}
 use Rattle.trdp_daemon.specs.Daemons.{DaemonState, TakesTurns, HasServed}
 

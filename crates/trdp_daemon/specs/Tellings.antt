@@ -4,7 +4,7 @@ use Rattle.trdp_base.specs.declared.place.Place.{Place}
 use Rattle.trdp_model.specs.Records.{RecordModel}
 use Rattle.trdp_daemon.specs.declared.contact.Contact.{Contact}
 use Rattle.trdp_daemon.specs.declared.link.Link.{Link}
-use Rattle.trdp_daemon.specs.Told.{Taking, Give}
+use Rattle.trdp_wire.specs.Told.{Taking, Give}
 use Rattle.trdp_daemon.specs.Effects.{text_telling, record_telling, records_telling}
 use Rattle.trdp_daemon.specs.Links.{Carries}
 

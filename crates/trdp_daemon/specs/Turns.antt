@@ -7,11 +7,11 @@ use Rattle.trdp_model.specs.Events.{EventModel, MomentIs}
 use Rattle.trdp_model.specs.NodeModels.{NodeModel, opened_model}
 use Rattle.trdp_model.specs.Slots.{slot_limit}
 use Rattle.trdp_daemon.specs.declared.contact.Contact.{Contact}
-use Rattle.trdp_daemon.specs.declared.port.Port.{Port}
-use Rattle.trdp_daemon.specs.declared.port.Port.TheVariants.{Pd, Md, PdGroup, MdGroup}
-use Rattle.trdp_daemon.specs.declared.port.Port.TheVariants.{Operator, Control}
+use Rattle.trdp_wire.specs.declared.port.Port.{Port}
+use Rattle.trdp_wire.specs.declared.port.Port.TheVariants.{Pd, Md, PdGroup, MdGroup}
+use Rattle.trdp_wire.specs.declared.port.Port.TheVariants.{Operator, Control}
 use Rattle.trdp_daemon.specs.declared.totals.Totals.{Totals}
-use Rattle.trdp_daemon.specs.Told.{Taking, Offer}
+use Rattle.trdp_wire.specs.Told.{Taking, Offer}
 use Rattle.trdp_daemon.specs.Effects.{ServiceState, Effect, Loss, TextsLost, still, then_effect}
 use Rattle.trdp_daemon.specs.Effects.{event_effect}
 use Rattle.trdp_daemon.specs.Visits.{taking_effect}

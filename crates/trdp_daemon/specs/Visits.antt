@@ -16,14 +16,14 @@ use Rattle.trdp_text.specs.PortLines.{OperatorSays, Orders, Asks}
 use Rattle.trdp_text.specs.PortLines.{control_line_of, operator_line_of}
 use Rattle.trdp_text.specs.declared.operator_line.Question.{Question}
 use Rattle.trdp_daemon.specs.declared.contact.Contact.{Contact}
-use Rattle.trdp_daemon.specs.declared.port.Port.{Port}
-use Rattle.trdp_daemon.specs.declared.port.Port.TheVariants.{Pd, Md, PdGroup, MdGroup}
-use Rattle.trdp_daemon.specs.declared.port.Port.TheVariants.{Operator, Control}
+use Rattle.trdp_wire.specs.declared.port.Port.{Port}
+use Rattle.trdp_wire.specs.declared.port.Port.TheVariants.{Pd, Md, PdGroup, MdGroup}
+use Rattle.trdp_wire.specs.declared.port.Port.TheVariants.{Operator, Control}
 use Rattle.trdp_daemon.specs.declared.totals.Totals.{Totals}
 use Rattle.trdp_daemon.specs.Leases.{ended_effect, quiet_effect}
-use Rattle.trdp_daemon.specs.Ports.{place_of_port}
+use Rattle.trdp_wire.specs.Ports.{place_of_port}
 use Rattle.trdp_daemon.specs.Questions.{text_of_question}
-use Rattle.trdp_daemon.specs.Told.{Arrived, Failed, Nothing, Came}
+use Rattle.trdp_wire.specs.Told.{Arrived, Failed, Nothing, Came}
 use Rattle.trdp_daemon.specs.Effects.{Telling, missing, offering, ServiceState, Effect, still}
 use Rattle.trdp_daemon.specs.Effects.{telling_only, then_effect, event_effect, lost_or}
 use Rattle.trdp_daemon.specs.Effects.{contact_of, read_again, with_contact}

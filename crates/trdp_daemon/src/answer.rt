@@ -5,11 +5,10 @@ ghost use Rattle.trdp_daemon.specs.Links.{Carries};
 ghost use Rattle.trdp_daemon.specs.Visits.{fault_telling, operator_text};
 
 use crate::link::Link;
-use crate::port::Port;
-use crate::wire::Wire;
 use trdp_base::Place;
 use trdp_engine::NodeFault;
 use trdp_text::LineFault;
+use trdp_wire::{Port, Wire};
 
 /// Answers a datagram that is no line with its fault, from the port that it came to. One for which
 /// an allocation failed is counted, and lost.

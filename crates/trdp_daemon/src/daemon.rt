@@ -2,21 +2,18 @@
 
 ghost use Rattle.std.specs.Prelude.{◌≡◌, IfOk, length, max, min};
 ghost use Rattle.trdp_base.specs.Moments.{last_moment};
-ghost use Rattle.trdp_daemon.specs.Ports.{ports_of};
+ghost use Rattle.trdp_wire.specs.Ports.{ports_of};
 ghost use Rattle.trdp_daemon.specs.Turns.{take_room};
 
-use crate::clock::Clock;
 use crate::link::Link;
-use crate::port::Port;
-use crate::ports::ports_of;
 use crate::service::Service;
 use crate::totals::Totals;
-use crate::wire::Wire;
 use std::alloc::{AllocError, Global};
 use std::marker::Model;
 use trdp_base::MOMENT_MAX;
 use trdp_dataset::NodeConfig;
 use trdp_engine::{Event, Node};
+use trdp_wire::{Clock, Port, Wire, ports_of};
 
 /// Room for what a take takes, in bytes: for any line of a control connection, which is more than
 /// the longest datagram over UDP.
@@ -43,7 +40,7 @@ pub struct Daemon<W: Wire, C: Clock> {
 impl<W: Wire, C: Clock> Model for Daemon<W, C> {
     ghost use Rattle.std.specs.Prelude.{◌≡◌, length};
     ghost use Rattle.trdp_daemon.specs.Daemons.{DaemonState};
-    ghost use Rattle.trdp_daemon.specs.Ports.{ports_of};
+    ghost use Rattle.trdp_wire.specs.Ports.{ports_of};
     ghost use Rattle.trdp_daemon.specs.Services.{IsSoundService, service_state};
     ghost use Rattle.trdp_daemon.specs.Turns.{take_room};
 

@@ -2,10 +2,9 @@
 
 ghost use Rattle.trdp_daemon.specs.Services.{IsHome};
 
-use crate::port::Port;
-use crate::seats::place_of_port;
 use trdp_base::Place;
 use trdp_dataset::NodeConfig;
+use trdp_wire::{Port, place_of_port};
 
 /// Where datagrams of process data and of message data that come to a node were sent to.
 #[derive(Clone, Copy)]

@@ -8,10 +8,9 @@ ghost use Rattle.trdp_daemon.specs.Services.{ComesWith, IsSoundService, service_
 
 use crate::contact::{Contact, contact_of};
 use crate::link::Link;
-use crate::port::Port;
 use crate::service::Service;
-use crate::wire::Wire;
 use trdp_engine::{Call, Event};
+use trdp_wire::{Port, Wire};
 
 impl Service {
     /// Handles a take that found nothing at a port: at a control port the slot's application may

@@ -4,9 +4,9 @@
 //!   node, and then one take at each port of its [`Wire`], each an event. What the node gives, the
 //!   daemon offers to the wire. [`Daemon::run`] takes a number of turns; [`Daemon::attend`] goes
 //!   on until a given time, and rests while nothing is due. [`Totals`] is what a daemon counts.
-//! - [`UdpWire`], which never rests, and [`RestingWire`], which does, are wires over [`Sockets`].
-//! - [`SystemSockets`] and [`RunClock`] are the system's. [`MemoryWire`], [`MemorySockets`] and
-//!   [`MemoryClock`] are for tests.
+//! - What a wire, a port and a clock are is in `trdp_wire`. [`UdpWire`], which never rests,
+//!   [`RestingWire`], which does, and [`RunClock`] are in `trdp_udp`. [`MemoryWire`] and
+//!   [`MemoryClock`], for tests, are in `trdp_memory`. This crate exports their names too.
 //!
 //! ```text
 //! let wire = UdpWire::bind(&rt, &config)?;
@@ -27,87 +27,37 @@
 //!
 //! `trdp_controls` puts connections in the place of control ports; `trdp_program` runs the daemon.
 //!
-//! **Proved**, for each wire, clock and sockets that report their calls: what a turn takes, offers
-//! and counts, and how long a rest the daemon notes as asked for. Proved too: which sockets are
-//! bound and watched, where and in which order; which datagrams a wire hands in, when it fails, and
-//! which refusal and which failed take it keeps; and which numbers [`RunClock`] makes of the
-//! system's times. Of [`RestingWire`]: when and how long it waits or sleeps, and at which ports it
-//! asks.
+//! **Proved**, for each wire and clock that report their calls: what a turn takes, offers and
+//! counts, and how long a rest the daemon notes as asked for.
 //!
 //! **Tested**: that a wire is handed the rests that the daemon notes (one line of `Link::rest`),
 //! since a wire reports no rests; and that with ample memory nothing is lost (`trdp_node_tests`).
 //!
-//! **Trusted**: the system, behind one function a call in [`SystemSockets`] and [`RunClock`]. A
-//! socket is bound where it is asked for and never waits; what came is taken whole, and what is
-//! given is sent; a wait ends when a datagram comes, and reports each that did; the time is now. A
-//! system at which nothing ever comes meets the contracts. The tests over loopback try these
-//! calls.
+//! **Trusted**: nothing here. What a wire and a clock of the system do is trusted in `trdp_udp`.
 #![tactic(auto)]
 
 mod answer;
-mod arrivals;
-mod bind_fault;
-mod clock;
 mod contact;
 mod daemon;
-mod fault;
-mod groups;
 mod home;
 mod laws;
 mod lease;
 mod link;
 mod lists;
-mod memory_clock;
-mod memory_sockets;
-mod memory_wire;
-mod missing;
-mod news;
-mod offers;
-mod opening;
-mod port;
-mod ports;
 mod question;
-mod refusal;
-mod rest_step;
-mod resting_system;
-mod resting_wire;
-mod rows;
-mod run_clock;
-mod seats;
 mod service;
-mod socket_fault;
-mod sockets;
-mod system_sockets;
 mod telling;
 mod totals;
-mod udp_wire;
-mod unread;
-mod wire;
 
-pub use bind_fault::BindFault;
-pub use clock::Clock;
 pub use daemon::Daemon;
-pub use fault::{WireFault, fail};
-pub use groups::Groups;
 pub use laws::{
     an_end_tells_nobody, each_port_is_taken_from, lost_only_where_memory_is_taken, nothing_missed,
     silence_resets_once,
 };
-pub use memory_clock::MemoryClock;
-pub use memory_sockets::{MemorySockets, SocketRow};
-pub use memory_wire::MemoryWire;
-pub use missing::Missing;
-pub use offers::Offers;
-pub use port::Port;
-pub use ports::control_number;
-pub use refusal::Refusal;
-pub use resting_wire::RestingWire;
-pub use rows::Rest;
-pub use run_clock::RunClock;
-pub use socket_fault::SocketFault;
-pub use sockets::Sockets;
-pub use system_sockets::SystemSockets;
 pub use totals::Totals;
-pub use udp_wire::UdpWire;
-pub use unread::Unread;
-pub use wire::Wire;
+pub use trdp_memory::{MemoryClock, MemorySockets, MemoryWire, Offers, Rest, SocketRow};
+pub use trdp_udp::{RestingWire, RunClock, SystemSockets, UdpWire};
+pub use trdp_wire::{
+    BindFault, Clock, Groups, Missing, Port, Refusal, SocketFault, Sockets, Unread, Wire,
+    WireFault, control_number, fail,
+};

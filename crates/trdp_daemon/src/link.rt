@@ -2,17 +2,15 @@
 
 ghost use Rattle.std.specs.Prelude.{◌≡◌, ◌≤◌, ℕ, Bool, List, [], ◌∷◌, length, IfOk, IfSome};
 ghost use Rattle.trdp_base.specs.declared.place.Place.{Place};
-ghost use Rattle.trdp_daemon.specs.declared.port.Port.{Port};
-ghost use Rattle.trdp_daemon.specs.Told.{Give, taking_of};
+ghost use Rattle.trdp_wire.specs.declared.port.Port.{Port};
+ghost use Rattle.trdp_wire.specs.Told.{Give, taking_of};
 ghost use Rattle.trdp_daemon.specs.Counting.{counted, no_totals, totals_after};
 ghost use Rattle.trdp_daemon.specs.Effects.{missing, offering, silence};
 ghost use Rattle.trdp_daemon.specs.Links.{Carries};
 
-use crate::fault::WireFault;
-use crate::port::Port;
 use crate::totals::Totals;
-use crate::wire::Wire;
 use trdp_base::Place;
+use trdp_wire::{Port, Wire, WireFault};
 
 /// A wire, with the totals of what came and went.
 #[derive(Drop)]

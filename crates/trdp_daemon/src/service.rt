@@ -9,8 +9,7 @@ ghost use Rattle.trdp_model.specs.NodeModels.{MayTakeMemory};
 ghost use Rattle.trdp_engine.specs.NodeStates.{uncounted};
 ghost use Rattle.trdp_model.specs.NodeModels.{node_after};
 ghost use Rattle.trdp_text.specs.PortLines.{control_line_of, operator_line_of};
-ghost use Rattle.trdp_daemon.specs.Effects.{event_effect, is_reset, missing};
-ghost use Rattle.trdp_daemon.specs.Effects.{telling_only};
+ghost use Rattle.trdp_daemon.specs.Effects.{event_effect, is_reset, missing, telling_only};
 ghost use Rattle.trdp_daemon.specs.Resting.{IsIdleTime};
 ghost use Rattle.trdp_daemon.specs.Services.{Comes, ComesTold, ComesWith, IsSoundService};
 ghost use Rattle.trdp_daemon.specs.Services.{TakesAtPorts, service_state};
@@ -24,16 +23,14 @@ use crate::contact::Contact;
 use crate::home::{Home, home_of};
 use crate::link::Link;
 use crate::lists::Lists;
-use crate::port::Port;
 use crate::question::put_answer;
-use crate::seats::group_place;
 use crate::telling::tell_records;
-use crate::wire::Wire;
 use std::alloc::{AllocError, Global};
 use trdp_base::Place;
 use trdp_dataset::NodeConfig;
 use trdp_engine::{Call, Event, Node, NodeFault, Outbox, Protocol};
 use trdp_text::{OperatorLine, Question, read_control_event, read_operator};
+use trdp_wire::{Port, Wire, group_place};
 
 /// A node, with the latest lines of its slots and the lists that are used again from event to
 /// event.

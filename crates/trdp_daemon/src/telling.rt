@@ -9,11 +9,10 @@ ghost use Rattle.trdp_daemon.specs.Tellings.{Tells, TellsRecord, TellsText};
 
 use crate::contact::{Contact, contact_of};
 use crate::link::Link;
-use crate::port::Port;
-use crate::wire::Wire;
 use trdp_base::Place;
 use trdp_engine::{Outbox, Protocol, Record, What};
 use trdp_text::print_record;
+use trdp_wire::{Port, Wire};
 
 /// Offers what the records send, slot by slot, slots rising, each slot's in their order.
 pub(crate) fn tell_records<W: Wire>(

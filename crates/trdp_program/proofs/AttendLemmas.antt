@@ -7,7 +7,7 @@ use Rattle.std.proofs.Common.{length, map, take}
 use Rattle.std.proofs.Common.{append_assoc, append-nil, Result, Ok, Err, IfErr, OnOk}
 use Rattle.std.proofs.Common.{IsErrAnd}
 use Rattle.trdp_dataset.specs.Configs.{ConfigModel}
-use Rattle.trdp_daemon.specs.Told.{Taking, Give, TellsMore}
+use Rattle.trdp_wire.specs.Told.{Taking, Give, TellsMore}
 use Rattle.trdp_daemon.specs.Daemons.{DaemonState, HasServed}
 use Rattle.trdp_daemon.specs.Turns.{Turn, offers_of}
 use Rattle.trdp_program.specs.declared.faults.ServeFault.{ServeFault}

@@ -11,7 +11,7 @@ use Rattle.std.proofs.lemmas.List.Folds.{list_any-append}
 use Rattle.std.proofs.lemmas.Bool.{leb-false, lt-leb}
 use Rattle.std.proofs.KnownBytes.{Appends-nil, Appends-trans}
 use Rattle.trdp_dataset.specs.Configs.{ConfigModel}
-use Rattle.trdp_daemon.specs.Told.{Taking, Give}
+use Rattle.trdp_wire.specs.Told.{Taking, Give}
 use Rattle.trdp_daemon.specs.Daemons.{DaemonState, HasServed}
 use Rattle.trdp_daemon.specs.Turns.{Turn}
 use Rattle.trdp_daemon.specs.Resting.{AreEarly, ServesUntil, reading_behind, last_reading}

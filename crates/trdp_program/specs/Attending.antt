@@ -3,7 +3,7 @@ use Rattle.std.specs.Prelude.{◌≡◌, ◌⊎◌, ℕ, ◌+◌, ◌*◌, ◌-�
 use Rattle.std.specs.Prelude.{Bool, false, List, [], ◌∷◌, ◌++◌, codes, length, Option, Ok}
 use Rattle.trdp_dataset.specs.Configs.{ConfigModel, ReadsToml, config_of}
 use Rattle.trdp_daemon.specs.declared.totals.Totals.{Totals}
-use Rattle.trdp_daemon.specs.Told.{Taking, Give, TellsMore}
+use Rattle.trdp_wire.specs.Told.{Taking, Give, TellsMore}
 use Rattle.trdp_daemon.specs.Daemons.{DaemonState, HasServed}
 use Rattle.trdp_daemon.specs.Questions.{text_of_totals}
 use Rattle.trdp_daemon.specs.Resting.{AreEarly, last_reading}

@@ -5,11 +5,11 @@ use Rattle.std.specs.List.{flat_map}
 use Rattle.std.specs.Io.KnownBytes.{Appends, Keeps}
 use Rattle.trdp_dataset.specs.Configs.{ConfigModel, ReadsToml, config_of}
 use Rattle.trdp_daemon.specs.declared.totals.Totals.{Totals}
-use Rattle.trdp_daemon.specs.Told.{Taking, Give}
+use Rattle.trdp_wire.specs.Told.{Taking, Give}
 use Rattle.trdp_daemon.specs.Counted.{TurnsCounted}
 use Rattle.trdp_daemon.specs.Counting.{no_totals, totals_after}
 use Rattle.trdp_daemon.specs.Daemons.{DaemonState, TakesTurns, opened_daemon}
-use Rattle.trdp_daemon.specs.Ports.{ports_of}
+use Rattle.trdp_wire.specs.Ports.{ports_of}
 use Rattle.trdp_daemon.specs.Questions.{text_of_totals}
 use Rattle.trdp_daemon.specs.Turns.{Turn, AllTakeAt, takings_of, turns_effect, opened_service}
 use Rattle.trdp_script.specs.Writes.{PartlyWrites}

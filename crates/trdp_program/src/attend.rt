@@ -20,8 +20,10 @@ use std::fs::Files;
 use std::io::Write;
 use std::net::Net;
 use std::time::Clock;
-use trdp_daemon::{Daemon, RunClock, Wire};
+use trdp_daemon::Daemon;
 use trdp_dataset::NodeConfig;
+use trdp_udp::RunClock;
+use trdp_wire::Wire;
 
 /// Serves a node of a configuration until the program is stopped, and returns the exit status: 4
 /// after a fault, which gives one line on `errors`, and 0 after 2^64 - 1 lines of totals.
@@ -84,7 +86,7 @@ fn attend<H: Files + Net + Clock + AllocGlobal, W: Stream, E: Write>(
 ///
 /// # Errors
 /// `OutOfMemory`.
-fn attend_over<L: Wire + Drop, C: trdp_daemon::Clock + Drop, W: Stream, E: Write>(
+fn attend_over<L: Wire + Drop, C: trdp_wire::Clock + Drop, W: Stream, E: Write>(
     alloc: Global,
     config: NodeConfig,
     lease: Option<u64>,
@@ -112,7 +114,7 @@ fn attend_over<L: Wire + Drop, C: trdp_daemon::Clock + Drop, W: Stream, E: Write
 ///
 /// # Errors
 /// `OutOfMemory`, where an allocation for a line fails.
-pub fn attend_lines<L: Wire, C: trdp_daemon::Clock, W: Stream, E: Write>(
+pub fn attend_lines<L: Wire, C: trdp_wire::Clock, W: Stream, E: Write>(
     alloc: Global,
     daemon: &mut Daemon<L, C>,
     step: u64,
@@ -142,7 +144,7 @@ pub fn attend_lines<L: Wire, C: trdp_daemon::Clock, W: Stream, E: Write>(
 
 /// Attends to a node until a turn begins at the reading `due` of the clock or later, and reports
 /// each second what went wrong. Returns the reading of the last turn.
-fn attend_until<L: Wire, C: trdp_daemon::Clock, E: Write>(
+fn attend_until<L: Wire, C: trdp_wire::Clock, E: Write>(
     daemon: &mut Daemon<L, C>,
     due: u64,
     reports: &mut Reports,

@@ -2,7 +2,7 @@
 
 use std::fmt;
 use std::net::{Ipv4Addr, SocketAddrV4};
-use trdp_daemon::{Missing, Port, Refusal, Unread};
+use trdp_wire::{Missing, Port, Refusal, Unread};
 
 /// The line about gives that were lost since the line before.
 #[derive(Clone, Copy)]

@@ -5,8 +5,9 @@ ghost use Rattle.trdp_program.specs.Faults.{TellsText};
 use crate::report_lines::{LostLine, MissingLine, UnreadLine};
 use std::fmt::{Display, InlineText, Write as _};
 use std::io::Write;
-use trdp_daemon::{Clock, Daemon, Wire};
+use trdp_daemon::Daemon;
 use trdp_script::write_whole;
+use trdp_wire::{Clock, Wire};
 
 /// The microseconds from one look at what went wrong to the next.
 const LOOK_STEP: u64 = 1_000_000;

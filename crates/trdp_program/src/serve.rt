@@ -17,9 +17,11 @@ use std::fs::Files;
 use std::io::Write;
 use std::net::Net;
 use std::time::Clock;
-use trdp_daemon::{Daemon, RunClock, Totals, Wire};
+use trdp_daemon::{Daemon, Totals};
 use trdp_dataset::NodeConfig;
 use trdp_script::write_whole;
+use trdp_udp::RunClock;
+use trdp_wire::Wire;
 
 /// Serves a node of that configuration (TOML) over the system's sockets: binds its UDP ports,
 /// takes `turns` turns without sleeping, writes the line of their totals to the writer, and
@@ -174,7 +176,7 @@ fn serve_controls<H: Files + Net + Clock + AllocGlobal, W: Write>(
 ///
 /// # Errors
 /// `Write` where the writer fails, and `OutOfMemory`.
-fn serve_at<L: Wire + Drop, C: trdp_daemon::Clock + Drop, W: Write>(
+fn serve_at<L: Wire + Drop, C: trdp_wire::Clock + Drop, W: Write>(
     alloc: Global,
     config: NodeConfig,
     lease: Option<u64>,
@@ -199,7 +201,7 @@ fn serve_at<L: Wire + Drop, C: trdp_daemon::Clock + Drop, W: Write>(
 ///
 /// # Errors
 /// `OutOfMemory`.
-fn serve_over<L: Wire + Drop, C: trdp_daemon::Clock + Drop>(
+fn serve_over<L: Wire + Drop, C: trdp_wire::Clock + Drop>(
     alloc: Global,
     config: NodeConfig,
     lease: Option<u64>,

@@ -2,7 +2,7 @@
 
 ghost use Rattle.std.specs.Prelude.{◌≡◌, ◌+◌, ◌-◌, ◌^◌, ◌++◌, [], ◌∷◌, List, take, min, ℕ};
 ghost use Rattle.std.specs.Prelude.{OnOk, IfOk, IfErr, false, string_bytes};
-ghost use Rattle.trdp_daemon.specs.Told.{TellsMore};
+ghost use Rattle.trdp_wire.specs.Told.{TellsMore};
 ghost use Rattle.trdp_program.specs.Attending.{text_of_line};
 ghost use Rattle.trdp_program.specs.Streams.{attempt, is_cut_behind, line_end};
 

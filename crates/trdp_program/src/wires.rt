@@ -10,8 +10,9 @@ use std::io;
 use std::net::Net;
 use std::time::Clock;
 use trdp_controls::{ControlWire, ListenFault, SystemConnections, SystemFolder};
-use trdp_daemon::{BindFault, RestingWire, RunClock, SystemSockets, UdpWire, Wire};
 use trdp_dataset::NodeConfig;
+use trdp_udp::{RestingWire, RunClock, SystemSockets, UdpWire};
+use trdp_wire::{BindFault, Wire};
 
 /// The UDP ports of a service.
 type Udp<'a, H> = UdpWire<SystemSockets<'a, H>>;

@@ -1,7 +1,7 @@
 use Rattle.std.proofs.Common.{◌<◌, ◌+◌, arith, drop, length}
 use Rattle.std.specs.List.{flat_map}
-use Rattle.trdp_daemon.specs.Ports.{control_numbers}
-use Rattle.trdp_daemon.proofs.ControlPortLemmas.{numbers_count}
+use Rattle.trdp_wire.specs.Ports.{control_numbers}
+use Rattle.trdp_wire.proofs.ControlPortLemmas.{numbers_count}
 use Rattle.trdp_controls.specs.Folders.{file_unless_0, number_unless_0}
 use Rattle.trdp_controls.proofs.ListenLemmas.{listened_more, listened_next, listened_stops}
 use Rattle.trdp_controls.proofs.ListenLemmas.{next_number, next_port, stops_with}

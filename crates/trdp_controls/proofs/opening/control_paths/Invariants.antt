@@ -1,6 +1,6 @@
 use Rattle.std.proofs.Common.{◌≡◌, ◌++◌, map, drop}
 use Rattle.std.specs.List.{flat_map}
-use Rattle.trdp_daemon.specs.Ports.{control_numbers}
+use Rattle.trdp_wire.specs.Ports.{control_numbers}
 use Rattle.trdp_controls.specs.Folders.{file_unless_0, number_unless_0, numbers_of}
 use Rattle.trdp_controls.proofs.ListenLemmas.{Listened}
 use Rattle.trdp_controls.proofs.opening.control_paths.Given as goal

@@ -2,7 +2,7 @@ use Rattle.std.proofs.Common.{ap, subst, [], Option}
 use Rattle.trdp_base.specs.declared.place.Place.{Place}
 use Rattle.trdp_model.specs.Records.{record_model, content_model}
 use Rattle.trdp_text.specs.RecordText.{text_of_record}
-use Rattle.trdp_daemon.specs.declared.port.Port.{Port}
+use Rattle.trdp_wire.specs.declared.port.Port.{Port}
 use Rattle.trdp_daemon.specs.Effects.{offering}
 use Rattle.trdp_daemon.specs.Links.{Carries}
 use Rattle.trdp_daemon.specs.Tellings.{TellsText}

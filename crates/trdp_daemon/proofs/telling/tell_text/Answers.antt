@@ -1,7 +1,7 @@
 use Rattle.std.proofs.Common.{ap, ◌∙◌, ◌++◌, subst, List, ℕ, []}
 use Rattle.trdp_model.specs.Records.{record_model}
 use Rattle.trdp_text.specs.RecordText.{text_of_record}
-use Rattle.trdp_daemon.specs.declared.port.Port.TheVariants.{Control}
+use Rattle.trdp_wire.specs.declared.port.Port.TheVariants.{Control}
 use Rattle.trdp_daemon.specs.Effects.{offering}
 use Rattle.trdp_daemon.specs.Links.{Carries}
 use Rattle.trdp_daemon.proofs.TellingLemmas.{text_dropped, text_given, text_lost}

@@ -1,5 +1,5 @@
 use Rattle.std.specs.List.{flat_map}
-use Rattle.trdp_daemon.specs.Ports.{control_numbers}
+use Rattle.trdp_wire.specs.Ports.{control_numbers}
 use Rattle.trdp_controls.specs.Folders.{file_unless_0, files_of}
 use Rattle.trdp_controls.proofs.ListenLemmas.{listened_both, stops_before, stops_behind}
 use Rattle.trdp_controls.proofs.ListenLemmas.{stops_with}

@@ -1,5 +1,5 @@
 use Rattle.std.proofs.Common.{[], ◌∷◌, refl, sym}
-use Rattle.trdp_daemon.specs.Told.{give_of}
+use Rattle.trdp_wire.specs.Told.{give_of}
 use Rattle.trdp_daemon.proofs.link.Link.give.Goals as goal
 
 pub returns-clause-carried : goal.returns-clause-carried

@@ -1,7 +1,7 @@
 use Rattle.std.proofs.Common.{[], List, ℕ, Option, ap, arith, length, subst, ◌∙◌, refl}
 use Rattle.trdp_engine.specs.NodeStates.{uncounted}
 use Rattle.trdp_daemon.specs.declared.contact.Contact.{Contact}
-use Rattle.trdp_daemon.specs.declared.port.Port.TheVariants.{Operator}
+use Rattle.trdp_wire.specs.declared.port.Port.TheVariants.{Operator}
 use Rattle.trdp_daemon.specs.Effects.{ServiceState, offering}
 use Rattle.trdp_daemon.specs.Links.{Carries}
 use Rattle.trdp_daemon.specs.Questions.{text_of_question}

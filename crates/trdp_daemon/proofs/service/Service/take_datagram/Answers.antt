@@ -1,6 +1,6 @@
 use Rattle.std.proofs.Common.{◌∙◌, refl}
 use Rattle.trdp_model.specs.declared.record.Protocol.TheVariants.{Pd as PdData, Md as MdData}
-use Rattle.trdp_daemon.specs.declared.port.Port.TheVariants.{Pd, Md, PdGroup, MdGroup}
+use Rattle.trdp_wire.specs.declared.port.Port.TheVariants.{Pd, Md, PdGroup, MdGroup}
 use Rattle.trdp_daemon.specs.Services.{service_state}
 use Rattle.trdp_daemon.proofs.VisitLemmas.{at_control, at_operator, at_telegram, group_at}
 use Rattle.trdp_daemon.proofs.VisitLemmas.{md_comes, md_group_comes, pd_comes, pd_group_comes}

@@ -1,0 +1,3 @@
+pub mod GiveRowLemmas
+pub mod TakeRowLemmas
+pub mod MemoryWireLemmas

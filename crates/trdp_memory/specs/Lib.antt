@@ -1,0 +1,4 @@
+pub mod MemoryClocks
+pub mod MemorySockets
+pub mod MemoryWires
+pub mod Rows

@@ -1,0 +1,389 @@
+//! A wire in memory, for tests.
+
+ghost use Rattle.std.specs.Prelude.{◌≡◌, ◌<◌, ◌≤◌, ◌+◌, ◌++◌, ◌∷◌, [], length};
+ghost use Rattle.std.specs.Prelude.{vec_len, vec_capacity};
+ghost use Rattle.std.specs.Prelude.{◌-◌, ◌^◌, ◌&&◌, nat_lt, is_err, OnErr};
+ghost use Rattle.trdp_wire.specs.Failures.{one_more_if};
+ghost use Rattle.trdp_memory.specs.Rows.{bytes_in, gives_of, row_give};
+
+use crate::arrivals::{Arrival, answer_take, failing_take, is_failing, takes_at};
+use crate::no_way::keep_refusal;
+use crate::offers::Offers;
+use crate::rows::{GiveRow, Rest, TakeRow};
+use std::alloc::{AllocError, Global};
+use std::marker::Model;
+use trdp_base::Place;
+use trdp_wire::{Port, Refusal, Wire, WireFault, fail};
+
+/// A wire over which what was laid down before arrives, and which remembers what it is given.
+///
+/// It has room for a number of takes, of gives and of bytes of gives. A call beyond one of these
+/// rooms is a fault, and from then on it reports nothing. It never waits. Of the rests that it is
+/// asked for it remembers the first, as many as it has room for takes.
+#[derive(Drop)]
+pub struct MemoryWire {
+    /// Where what is laid down takes its memory from.
+    alloc: Global,
+    /// What is to arrive, in the order in which it was laid down.
+    arrivals: Vec<Arrival>,
+    /// Which takes fail, counted from 1 over all ports.
+    failing_takes: Vec<usize>,
+    /// Which gives fail, counted from 1 over all ports.
+    failing_gives: Vec<usize>,
+    /// The takes so far.
+    taken: Vec<TakeRow>,
+    /// The gives so far.
+    given: Vec<GiveRow>,
+    /// The bytes of the gives so far, joined in order.
+    bytes: Vec<u8>,
+    /// The first rests that it was asked for.
+    rested: Vec<Rest>,
+    /// How many more bytes of gives have room.
+    byte_room: usize,
+    /// How often it has failed, at most 2^64 - 1.
+    failures: u64,
+    /// The latest give at which it failed; None before the first.
+    refusal: Option<Refusal>,
+    /// Whether it reports its takes and gives: no call was beyond its rooms.
+    tells: bool,
+}
+
+impl Model for MemoryWire {
+    ghost use Rattle.std.specs.Prelude.{◌≡◌, ◌≤◌, ◌+◌, ◌-◌, length, map, vec_capacity, vec_len};
+    ghost use Rattle.trdp_memory.specs.MemoryWires.{MemoryWireState};
+    ghost use Rattle.trdp_memory.specs.Rows.{AreLaidDown, bytes_in, gives_of, row_taking};
+
+    ghost Value = { MemoryWireState };
+
+    ghost view = { λ w. record {
+      laid_down = record {
+        arrivals = w.arrivals.items;
+        failing_takes = w.failing_takes.items;
+        failing_gives = w.failing_gives.items;
+      };
+      takings = map (row_taking w.arrivals.items) w.taken.items;
+      gives = gives_of w.bytes.items w.given.items;
+      rests = w.rested.items;
+      tells = w.tells;
+      failures = w.failures;
+      refusal = w.refusal;
+      take_room = vec_capacity w.taken - vec_len w.taken;
+      give_room = vec_capacity w.given - vec_len w.given;
+      byte_room = w.byte_room;
+      rest_room = vec_capacity w.rested - vec_len w.rested;
+    } };
+
+    ghost invariant = { λ w. (bytes_in w.given.items ≡ length w.bytes.items)
+        × AreLaidDown (length w.arrivals.items) w.taken.items
+        × (vec_len w.bytes + w.byte_room ≤ vec_capacity w.bytes) };
+}
+
+impl MemoryWire {
+    ghost use Rattle.std.specs.Prelude.{◌≡◌, [], IfOk, OnOk, OnErr, map};
+    ghost use Rattle.std.specs.Prelude.{true, false, ◌<◌, ◌≤◌, None};
+    ghost use Rattle.std.specs.List.{flat_map};
+    ghost use Rattle.trdp_memory.specs.MemoryWires.{nothing_laid_down, with_arrival};
+    ghost use Rattle.trdp_memory.specs.MemoryWires.{is_give_beyond, with_failing_give};
+    ghost use Rattle.trdp_memory.specs.MemoryWires.{with_failing_take};
+
+    /// A wire over which nothing arrives yet, with room for that many takes, gives, and bytes of
+    /// gives.
+    ///
+    /// # Errors
+    /// `AllocError` where an allocation for these fails.
+    pub fn new(
+        alloc: Global,
+        takes: usize,
+        gives: usize,
+        bytes: usize,
+    ) -> Result<MemoryWire, AllocError>
+        ensures laid_down { IfOk result (λ wire. wire.laid_down ≡ nothing_laid_down) }
+        ensures takings { IfOk result (λ wire. wire.takings ≡ []) }
+        ensures gives { IfOk result (λ wire. wire.gives ≡ []) }
+        ensures rests { IfOk result (λ wire. wire.rests ≡ []) }
+        ensures tells { IfOk result (λ wire. wire.tells ≡ true) }
+        ensures failures { IfOk result (λ wire. wire.failures ≡ 0) }
+        ensures refusal { IfOk result (λ wire. wire.refusal ≡ None) }
+        ensures take_room { IfOk result (λ wire. wire.take_room ≡ takes) }
+        ensures give_room { IfOk result (λ wire. wire.give_room ≡ gives) }
+        ensures byte_room { IfOk result (λ wire. wire.byte_room ≡ bytes) }
+        ensures rest_room { IfOk result (λ wire. wire.rest_room ≡ takes) }
+    {
+        let taken = Vec::with_capacity(alloc, takes)?;
+        let given = Vec::with_capacity(alloc, gives)?;
+        let byte_list = Vec::with_capacity(alloc, bytes)?;
+        let rested = Vec::with_capacity(alloc, takes)?;
+        Ok(MemoryWire {
+            alloc,
+            arrivals: Vec::new(alloc),
+            failing_takes: Vec::new(alloc),
+            failing_gives: Vec::new(alloc),
+            taken,
+            given,
+            bytes: byte_list,
+            rested,
+            byte_room: bytes,
+            failures: 0,
+            refusal: None,
+            tells: true,
+        })
+    }
+
+    /// The bytes of all that it was given, joined in order.
+    pub fn bytes(&self) -> &[u8]
+        ensures { result.now ≡ flat_map (λ give. give.offer.bytes) self.now.gives }
+    {
+        &self.bytes
+    }
+
+    /// What was offered to it, in order; one at which it failed was offered too.
+    pub fn offers(&self) -> Offers<'_>
+        ensures { result ≡ map (λ give. give.offer) self.now.gives }
+    {
+        Offers::new(&self.given, &self.bytes)
+    }
+
+    /// The first rests that it was asked for, in order.
+    pub fn rests(&self) -> &[Rest]
+        ensures { result.now ≡ self.now.rests }
+    {
+        &self.rested
+    }
+
+    /// Lays down that a datagram arrives at the port at the take of that number, from 1; of two
+    /// for one take the first arrives.
+    ///
+    /// # Errors
+    /// `AllocError` where an allocation for it fails.
+    pub fn arrive(
+        &mut self,
+        port: Port,
+        take: usize,
+        from: Place,
+        bytes: &[u8],
+    ) -> Result<(), AllocError>
+        ensures laid_down { OnOk result (self.new ≡ with_arrival self.old (record {
+          port = port;
+          at_take = take;
+          from = from;
+          bytes = bytes.now;
+        })) }
+        ensures kept { OnErr result (self.new ≡ self.old) }
+    {
+        let bytes = bytes.to_vec(self.alloc)?;
+        self.arrivals.push(Arrival {
+            port,
+            at_take: take,
+            from,
+            bytes,
+        })?;
+        Ok(())
+    }
+
+    /// Lays down that the take of that number fails, counted from 1 over all ports; what is to
+    /// arrive at it never comes.
+    ///
+    /// # Errors
+    /// `AllocError` where an allocation for it fails.
+    pub fn fail_take(&mut self, number: usize) -> Result<(), AllocError>
+        ensures laid_down { OnOk result (self.new ≡ with_failing_take self.old number) }
+        ensures kept { OnErr result (self.new ≡ self.old) }
+    {
+        self.failing_takes.push(number)?;
+        Ok(())
+    }
+
+    /// Lays down that the give of that number fails, counted from 1 over all ports.
+    ///
+    /// # Errors
+    /// `AllocError` where an allocation for it fails.
+    pub fn fail_give(&mut self, number: usize) -> Result<(), AllocError>
+        ensures laid_down { OnOk result (self.new ≡ with_failing_give self.old number) }
+        ensures kept { OnErr result (self.new ≡ self.old) }
+    {
+        self.failing_gives.push(number)?;
+        Ok(())
+    }
+
+    /// Whether the next give, of that many bytes, is beyond its rooms.
+    #[tactic(auto, unfolding(crate::specs::MemoryWires::is_give_beyond))]
+    fn is_give_beyond(&self, len: usize) -> bool
+        ensures beyond { result ≡ is_give_beyond self.now len }
+        ensures row { result ≡ false → 0 < self.now.give_room }
+        ensures bytes { result ≡ false → len ≤ self.now.byte_room }
+    {
+        self.given.capacity() - self.given.len() == 0 || self.byte_room < len
+    }
+}
+
+impl Wire for MemoryWire {
+    ghost use Rattle.std.specs.Prelude.{◌≡◌, ◌<◌, ◌≤◌, ◌+◌, ◌∷◌, [], length, IfOk, IfSome, OnErr};
+    ghost use Rattle.std.specs.Prelude.{is_err, true};
+    ghost use Rattle.trdp_memory.specs.MemoryWires.{after_give, after_take, next_arrival};
+    ghost use Rattle.trdp_memory.specs.MemoryWires.{next_give_fails, room_after, told};
+    ghost use Rattle.trdp_memory.specs.MemoryWires.{after_rest, rest_of};
+    ghost use Rattle.trdp_memory.specs.Rows.{nowhere};
+    ghost use Rattle.trdp_wire.specs.Told.{TellsMore, arrived_in, give_of, taking_of};
+
+    ghost takings = { λ w. told w.tells w.takings };
+
+    ghost gives = { λ w. told w.tells w.gives };
+
+    ghost faults = { λ w. w.failures };
+
+    ghost news = { λ _ _. true };
+
+    ghost ended = { λ _ _. nowhere };
+
+    fn take(&mut self, port: Port, room: &mut [u8]) -> Result<Option<(Place, usize)>, WireFault>
+        ensures within { IfOk result (λ found. IfSome found (λ f. f.1 ≤ length room.new)) }
+        ensures takes { TellsMore (told self.old.tells self.old.takings)
+            (told self.new.tells self.new.takings)
+            (taking_of port nowhere result room.new ∷ []) }
+        ensures gives_nothing { TellsMore (told self.old.tells self.old.gives)
+            (told self.new.tells self.new.gives) [] }
+        ensures fault { OnErr result (self.old.failures < self.new.failures) }
+        ensures arrived { arrived_in result room.new
+            ≡ next_arrival self.old port (length room.old) }
+        ensures room { room.new ≡ room_after (arrived_in result room.new) room.old }
+        ensures after { self.new ≡ after_take self.old (taking_of port nowhere result room.new) }
+    {
+        if self.taken.len() >= self.taken.capacity() {
+            self.tells = false;
+            let (_, result) = failing_take(&mut self.failures);
+            return result;
+        }
+        let fails = is_failing(&self.failing_takes, self.taken.len() + 1);
+        let number = takes_at(&self.taken, port) + 1;
+        let (answer, result) = answer_take(
+            &self.arrivals,
+            &mut self.failures,
+            fails,
+            port,
+            number,
+            room,
+        );
+        let room = room.len();
+        push_take(&mut self.taken, TakeRow { port, room, answer });
+        result
+    }
+
+    fn give(&mut self, port: Port, to: Place, bytes: &[u8]) -> Result<(), WireFault>
+        ensures offers { TellsMore (told self.old.tells self.old.gives)
+            (told self.new.tells self.new.gives) (give_of port to bytes.now result ∷ []) }
+        ensures takes_nothing { TellsMore (told self.old.tells self.old.takings)
+            (told self.new.tells self.new.takings) [] }
+        ensures fault { OnErr result (self.old.failures < self.new.failures) }
+        ensures fails { is_err result ≡ next_give_fails self.old (length bytes.now) }
+        ensures after { self.new ≡ after_give self.old (give_of port to bytes.now result) }
+    {
+        if self.is_give_beyond(bytes.len()) {
+            self.tells = false;
+            let result = fail(&mut self.failures);
+            keep_refusal(&mut self.refusal, port, to, result);
+            return result;
+        }
+        let fails = is_failing(&self.failing_gives, self.given.len() + 1);
+        let result = fail_if(fails, &mut self.failures);
+        keep_refusal(&mut self.refusal, port, to, result);
+        let row = GiveRow {
+            port,
+            to,
+            len: bytes.len(),
+            failed: result.is_err(),
+        };
+        self.byte_room -= bytes.len();
+        push_give(&mut self.given, &mut self.bytes, row, bytes);
+        result
+    }
+
+    fn rest(&mut self, most: u64)
+        ensures takes_nothing { told self.new.tells self.new.takings
+            ≡ told self.old.tells self.old.takings }
+        ensures gives_nothing { told self.new.tells self.new.gives
+            ≡ told self.old.tells self.old.gives }
+        ensures fault { self.new.failures ≡ self.old.failures }
+        ensures after { self.new ≡ after_rest self.old (rest_of self.old most) }
+    {
+        let takes = self.taken.len();
+        if self.rested.len() < self.rested.capacity() {
+            push_rest(&mut self.rested, Rest { takes, most });
+        }
+    }
+
+    fn has_news(&self, _port: Port) -> bool {
+        true
+    }
+
+    fn has_ended(&self, _port: Port, _place: Place) -> bool {
+        false
+    }
+
+    fn failures(&self) -> u64 {
+        self.failures
+    }
+
+    fn refusal(&self) -> Option<Refusal>
+        ensures { result ≡ self.now.refusal }
+    {
+        self.refusal
+    }
+}
+
+/// Adds a rest within the room.
+fn push_rest(rested: &mut Vec<Rest>, rest: Rest)
+    requires { vec_len rested.old < vec_capacity rested.old }
+    ensures items { rested.new.items ≡ rested.old.items ++ rest ∷ [] }
+    ensures len { vec_len rested.new ≡ vec_len rested.old + 1 }
+    ensures capacity { vec_capacity rested.new ≡ vec_capacity rested.old }
+{
+    rested.push_reserved(rest);
+}
+
+/// Fails where it is to fail, unless the count of failures is at its last value.
+#[tactic(auto, unfolding(trdp_wire::specs::Failures::one_more_if))]
+fn fail_if(fails: bool, failures: &mut u64) -> Result<(), WireFault>
+    ensures fault { OnErr result (failures.old < failures.new) }
+    ensures fails { is_err result ≡ nat_lt failures.old (2 ^ 64 - 1) && fails }
+    ensures count { failures.new ≡ one_more_if (is_err result) failures.old }
+{
+    if fails { fail(failures) } else { Ok(()) }
+}
+
+/// Adds a row within the room.
+fn push_take(taken: &mut Vec<TakeRow>, row: TakeRow)
+    requires { vec_len taken.old < vec_capacity taken.old }
+    ensures items { taken.new.items ≡ taken.old.items ++ row ∷ [] }
+    ensures len { vec_len taken.new ≡ vec_len taken.old + 1 }
+    ensures capacity { vec_capacity taken.new ≡ vec_capacity taken.old }
+{
+    taken.push_reserved(row);
+}
+
+/// Adds a row and its bytes within the room.
+fn push_give(given: &mut Vec<GiveRow>, held: &mut Vec<u8>, row: GiveRow, bytes: &[u8])
+    requires row { vec_len given.old < vec_capacity given.old }
+    requires bytes { vec_len held.old + length bytes.now ≤ vec_capacity held.old }
+    requires len { row.len ≡ length bytes.now }
+    requires whole { bytes_in given.old.items ≡ length held.old.items }
+    ensures gives { gives_of held.new.items given.new.items
+        ≡ gives_of held.old.items given.old.items ++ row_give row bytes.now ∷ [] }
+    ensures whole { bytes_in given.new.items ≡ length held.new.items }
+    ensures given_len { vec_len given.new ≡ vec_len given.old + 1 }
+    ensures given_capacity { vec_capacity given.new ≡ vec_capacity given.old }
+    ensures held_len { vec_len held.new ≡ vec_len held.old + length bytes.now }
+    ensures held_capacity { vec_capacity held.old ≤ vec_capacity held.new }
+{
+    given.push_reserved(row);
+    append(held, bytes);
+}
+
+/// Adds bytes at the end, within the room.
+fn append(held: &mut Vec<u8>, bytes: &[u8])
+    requires { vec_len held.old + length bytes.now ≤ vec_capacity held.old }
+    ensures items { held.new.items ≡ held.old.items ++ bytes.now }
+    ensures len { vec_len held.new ≡ vec_len held.old + length bytes.now }
+    ensures capacity { vec_capacity held.old ≤ vec_capacity held.new }
+{
+    held.extend_from_slice(bytes).unwrap();
+}

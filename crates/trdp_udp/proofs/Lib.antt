@@ -1,0 +1,4 @@
+pub mod SocketLemmas
+pub mod SocketWireLemmas
+pub mod GroupPortLemmas
+pub mod RestingWireLemmas

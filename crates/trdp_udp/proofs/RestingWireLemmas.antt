@@ -1,0 +1,36 @@
+-- The sockets of which the resting wire keeps news.
+-- For `RestingWire::over`, `RestingWire::take_news` and `note_events`.
+-- By induction on the list.
+use Rattle.std.proofs.Common.{◌≡◌, ℕ, zero, suc, Bool, true, false, List, [], ◌∷◌, ◌++◌, map}
+use Rattle.std.proofs.Common.{◌||◌}
+use Rattle.std.proofs.Common.{refl, sym, ◌∙◌, ap, replicate}
+use Rattle.std.specs.Prelude.{slice_set}
+use Rattle.std.proofs.lemmas.List.{map-append}
+use Rattle.trdp_wire.specs.News.{has_news, with_news}
+
+-- where that many are there, there are news of each socket
+pub each_there : (count socket : ℕ) → has_news (replicate count true) socket ≡ true
+each_there zero socket = refl
+each_there (suc count) zero = refl
+each_there (suc count) (suc socket) = each_there count socket
+
+pub or_false : (b : Bool) → b ≡ (b || false)
+or_false true = refl
+or_false false = refl
+
+-- one more is noted after the others
+noted_last : (told : List ℕ) (socket : ℕ) (news : List Bool)
+    → with_news (told ++ socket ∷ []) news ≡ slice_set (with_news told news) socket true
+noted_last [] socket news = refl
+noted_last (first ∷ told) socket news = noted_last told socket (slice_set news first true)
+
+pub noted_next : {E : Type 0} (number : E → ℕ) (yielded : List E) (event : E)
+    (news before after : List Bool) (socket : ℕ)
+    → before ≡ with_news (map number yielded) news → socket ≡ number event
+    → after ≡ slice_set before socket true
+    → after ≡ with_news (map number (yielded ++ event ∷ [])) news
+noted_next number yielded event news before after socket so_far is set =
+    set ∙ ap (λ l. slice_set l socket true) so_far
+    ∙ ap (λ s. slice_set (with_news (map number yielded) news) s true) is
+    ∙ sym (noted_last (map number yielded) (number event) news)
+    ∙ ap (λ l. with_news l news) (sym (map-append number yielded (event ∷ [])))

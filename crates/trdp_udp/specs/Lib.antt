@@ -1,0 +1,7 @@
+pub mod FewPorts
+pub mod Openings
+pub mod RestingWires
+pub mod RestSteps
+pub mod RunClocks
+pub mod SocketWires
+pub mod SystemSockets

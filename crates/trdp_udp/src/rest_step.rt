@@ -1,0 +1,112 @@
+//! What a rest does.
+
+ghost use Rattle.std.specs.Prelude.{◌≡◌};
+ghost use Rattle.trdp_udp.specs.RestSteps.{busy_step, goes_on_after, idle_step, is_breathless};
+ghost use Rattle.trdp_udp.specs.RestSteps.{is_rest, rest_left, step_of};
+
+/// How much earlier than asked a wait ends, in microseconds: the system comes late.
+const WAKE_TIME: u64 = 200;
+
+/// The microseconds of one step of the system's waits.
+const WAIT_STEP: u64 = 1_000;
+
+/// The least microseconds of a rest that tells that little comes.
+const CALM_REST: u64 = 100;
+
+/// The most microseconds without a rest: a quarter of what the unit's limit lets a process of a
+/// real-time policy run without one.
+const BREATHLESS: u64 = 50_000;
+
+/// What a rest does.
+#[derive(Clone, Copy)]
+pub(crate) enum RestStep {
+    /// Nothing: the next turn begins.
+    GoOn,
+    /// Where news are is asked before the next turn, without a wait.
+    Look,
+    /// A sleep of that many microseconds, after which the system is asked for news.
+    Sleep(u64),
+    /// A wait of that many milliseconds, which news end.
+    Wait(u64),
+}
+
+impl RestStep {
+    /// The step of a rest of at most `most` microseconds. `heard` is whether something was heard
+    /// since the rest before, `goes_on` whether a turn without a rest goes on without asking for
+    /// news.
+    #[tactic(auto, unfolding(crate::specs::RestSteps::step_of))]
+    pub(crate) fn of(heard: bool, most: u64, goes_on: bool) -> RestStep
+        ensures { result ≡ step_of heard most goes_on }
+    {
+        if heard || most == 0 {
+            busy_step(goes_on)
+        } else {
+            idle_step(most)
+        }
+    }
+
+    /// Whether the next turn goes on without asking where news are, if it has no rest, after this
+    /// step between these readings of the clock. It does after a rest that wasn't short, so that
+    /// something that comes alone costs no more calls.
+    pub(crate) fn goes_on(self, began: u64, ended: u64) -> bool
+        ensures { result ≡ goes_on_after self began ended }
+    {
+        self.is_rest() && CALM_REST <= ended.saturating_sub(began)
+    }
+
+    /// Whether it is a rest: a sleep or a wait.
+    pub(crate) fn is_rest(self) -> bool
+        ensures { result ≡ is_rest self }
+    {
+        match self {
+            RestStep::GoOn | RestStep::Look => false,
+            RestStep::Sleep(_) | RestStep::Wait(_) => true,
+        }
+    }
+}
+
+/// What is left of a rest of at most `most` microseconds that begins at the reading `began`, where
+/// the one before ended at `ended`: the turn between them has used some of it.
+pub(crate) fn rest_left(ended: Option<u64>, began: u64, most: u64) -> u64
+    ensures { result ≡ rest_left ended began most }
+{
+    match ended {
+        Some(ended) => most.saturating_sub(began.saturating_sub(ended)),
+        None => most,
+    }
+}
+
+/// Whether there was no rest for 50 milliseconds up to this reading of the clock. `busy` is the
+/// reading since which there was none; None where there was one.
+#[tactic(auto, unfolding(crate::specs::RestSteps::is_breathless))]
+pub(crate) fn is_breathless(busy: Option<u64>, reading: u64) -> bool
+    ensures { result ≡ is_breathless busy reading }
+{
+    match busy {
+        Some(since) => BREATHLESS <= reading.saturating_sub(since),
+        None => false,
+    }
+}
+
+/// The step of a turn without a rest: `goes_on` is whether it goes on without asking for news.
+fn busy_step(goes_on: bool) -> RestStep
+    ensures { result ≡ busy_step goes_on }
+{
+    if goes_on {
+        RestStep::GoOn
+    } else {
+        RestStep::Look
+    }
+}
+
+/// The step of a rest of at most `most` microseconds.
+fn idle_step(most: u64) -> RestStep
+    ensures { result ≡ idle_step most }
+{
+    let early = most.saturating_sub(WAKE_TIME);
+    if early < WAIT_STEP {
+        RestStep::Sleep(most)
+    } else {
+        RestStep::Wait(early / WAIT_STEP)
+    }
+}

@@ -1,0 +1,277 @@
+//! The UDP ports of a node.
+
+ghost use Rattle.std.specs.Prelude.{◌≡◌, ◌<◌, ◌≤◌, ◌∷◌, [], length, None, Some};
+ghost use Rattle.std.specs.Prelude.{IfOk, IfErr, IfSome, OnErr, Bool, false, true};
+ghost use Rattle.trdp_wire.specs.Sockets.{MadeInTurn, binds_of, network_binds_of};
+ghost use Rattle.trdp_udp.specs.SocketWires.{GivesAtSocket, TakesAtSocket, begins_as_answer};
+ghost use Rattle.trdp_udp.specs.SocketWires.{is_answer};
+
+use crate::opening::{bind_network, bind_ports};
+use crate::system_sockets::SystemSockets;
+use std::net::Net;
+use trdp_base::Place;
+use trdp_dataset::NodeConfig;
+use trdp_wire::{BindFault, Groups, Port, Refusal, Sockets, Unread, Wire, WireFault, fail};
+
+/// How each answer begins to a datagram that is no line of its port.
+const FAULT_FRONT: &[u8] = b"line fault ";
+
+/// The UDP ports of a node, which never wait, nor rest. It reports no takes and gives; its
+/// contracts say what it makes of the calls of its sockets.
+///
+/// At a control port and at the operator's it hands in no datagram that begins with `line fault `:
+/// that is an answer, and can't be read as a line. If it were answered, two ports could answer
+/// each other for ever.
+#[derive(Drop)]
+pub struct UdpWire<S> {
+    /// The sockets of the ports.
+    pub(crate) sockets: S,
+    /// The groups of the node, by which each port has its socket.
+    pub(crate) groups: Groups,
+    /// How often a take or a give failed, at most 2^64 - 1.
+    pub(crate) failures: u64,
+    /// The latest give that was refused; None before the first.
+    pub(crate) refusal: Option<Refusal>,
+    /// The latest take that failed; None before the first.
+    pub(crate) unread: Option<Unread>,
+}
+
+impl<'a, R: Net> UdpWire<SystemSockets<'a, R>> {
+    /// Binds the system's sockets at the ports that a configuration names, as [`UdpWire::open`]
+    /// does. It allocates nothing of its own, so that a port which can't be bound is found
+    /// whatever memory is there.
+    ///
+    /// # Errors
+    /// At the first port that isn't bound: `OutOfMemory` where the system is out of memory for it,
+    /// and else `Bind`.
+    pub fn bind(rt: &'a R, config: &NodeConfig) -> Result<UdpWire<SystemSockets<'a, R>>, BindFault>
+        ensures failures { IfOk result (λ wire. wire.failures ≡ 0) }
+        ensures refusal { IfOk result (λ wire. wire.refusal ≡ None) }
+        ensures unread { IfOk result (λ wire. wire.unread ≡ None) }
+    {
+        match UdpWire::open(SystemSockets::new(rt), config) {
+            Ok(wire) => Ok(wire),
+            Err((fault, _)) => Err(fault),
+        }
+    }
+
+    /// Binds the system's sockets at the ports of process data and message data alone, as
+    /// [`UdpWire::open_network`] does: nothing ever comes at the others. It allocates nothing of
+    /// its own.
+    ///
+    /// # Errors
+    /// As [`UdpWire::bind`].
+    pub fn bind_network(
+        rt: &'a R,
+        config: &NodeConfig,
+    ) -> Result<UdpWire<SystemSockets<'a, R>>, BindFault>
+        ensures failures { IfOk result (λ wire. wire.failures ≡ 0) }
+        ensures refusal { IfOk result (λ wire. wire.refusal ≡ None) }
+        ensures unread { IfOk result (λ wire. wire.unread ≡ None) }
+    {
+        match UdpWire::open_network(SystemSockets::new(rt), config) {
+            Ok(wire) => Ok(wire),
+            Err((fault, _)) => Err(fault),
+        }
+    }
+}
+
+impl<S: Sockets> UdpWire<S> {
+    /// Binds sockets at the ports that a configuration names, one after another: process data and
+    /// message data at its address and at those of its groups, the operator's and the control ports
+    /// of the slots at its control address.
+    ///
+    /// # Errors
+    /// At the first port that isn't bound: its fault, and the sockets.
+    pub fn open(mut sockets: S, config: &NodeConfig) -> Result<UdpWire<S>, (BindFault, S)>
+        ensures bound { IfOk result (λ wire. MadeInTurn (binds_of config.now) None
+            (S.calls sockets) (S.calls wire.sockets)) }
+        ensures refused { IfErr result (λ back. MadeInTurn (binds_of config.now) (Some back.0)
+            (S.calls sockets) (S.calls back.1)) }
+        ensures groups { IfOk result (λ wire. wire.groups ≡ config.now.groups) }
+        ensures failures { IfOk result (λ wire. wire.failures ≡ 0) }
+        ensures refusal { IfOk result (λ wire. wire.refusal ≡ None) }
+        ensures unread { IfOk result (λ wire. wire.unread ≡ None) }
+    {
+        match bind_ports(&mut sockets, config) {
+            Ok(()) => Ok(UdpWire::over(sockets, Groups::of(config))),
+            Err(fault) => Err((fault, sockets)),
+        }
+    }
+
+    /// Binds sockets at the ports of process data and message data alone, one after another, at the
+    /// address of the configuration and at those of its groups.
+    ///
+    /// # Errors
+    /// As [`UdpWire::open`].
+    pub fn open_network(mut sockets: S, config: &NodeConfig) -> Result<UdpWire<S>, (BindFault, S)>
+        ensures bound { IfOk result (λ wire. MadeInTurn (network_binds_of config.now) None
+            (S.calls sockets) (S.calls wire.sockets)) }
+        ensures refused { IfErr result (λ back. MadeInTurn (network_binds_of config.now)
+            (Some back.0) (S.calls sockets) (S.calls back.1)) }
+        ensures groups { IfOk result (λ wire. wire.groups ≡ config.now.groups) }
+        ensures failures { IfOk result (λ wire. wire.failures ≡ 0) }
+        ensures refusal { IfOk result (λ wire. wire.refusal ≡ None) }
+        ensures unread { IfOk result (λ wire. wire.unread ≡ None) }
+    {
+        match bind_network(&mut sockets, config) {
+            Ok(()) => Ok(UdpWire::over(sockets, Groups::of(config))),
+            Err(fault) => Err((fault, sockets)),
+        }
+    }
+
+    /// Its sockets.
+    pub fn sockets(&self) -> &S
+        ensures { result.now ≡ self.now.sockets }
+    {
+        &self.sockets
+    }
+
+    /// A wire over sockets that are bound, before its first take.
+    pub(crate) fn over(sockets: S, groups: Groups) -> UdpWire<S>
+        ensures sockets { result.sockets ≡ sockets }
+        ensures groups { result.groups ≡ groups }
+        ensures failures { result.failures ≡ 0 }
+        ensures refusal { result.refusal ≡ None }
+        ensures unread { result.unread ≡ None }
+    {
+        UdpWire {
+            sockets,
+            groups,
+            failures: 0,
+            refusal: None,
+            unread: None,
+        }
+    }
+
+    /// Takes the next datagram at a port, and returns too whether something was heard there: a
+    /// datagram, also one that isn't handed in, or a failure.
+    pub(crate) fn ask(
+        &mut self,
+        port: Port,
+        room: &mut [u8],
+    ) -> (Result<Option<(Place, usize)>, WireFault>, bool)
+        ensures within { IfOk result.0 (λ found. IfSome found (λ f. f.1 ≤ length room.new)) }
+        ensures fault { OnErr result.0 (self.old.failures < self.new.failures) }
+        ensures takes { TakesAtSocket self.old.groups
+            (S.calls self.old.sockets) (S.calls self.new.sockets)
+            port room.new result.0 self.old.failures self.new.failures result.1
+            self.old.unread self.new.unread }
+        ensures kept { self.new ≡ record self.old {
+          sockets = self.new.sockets;
+          failures = self.new.failures;
+          unread = self.new.unread;
+        } }
+        ensures groups { self.new.groups ≡ self.old.groups }
+        ensures refusal { self.new.refusal ≡ self.old.refusal }
+    {
+        match self.sockets.take(self.groups.socket_of(port), room) {
+            Ok(None) => (Ok(None), false),
+            Ok(Some((from, len))) => {
+                let (bytes, _) = room.split_at(len);
+                if is_answer(port, bytes) {
+                    return (Ok(None), true);
+                }
+                (Ok(Some((from, len))), true)
+            }
+            Err(fault) => {
+                self.unread = Some(Unread { port, fault });
+                match fail(&mut self.failures) {
+                    Ok(()) => (Ok(None), true),
+                    Err(fault) => (Err(fault), true),
+                }
+            }
+        }
+    }
+}
+
+impl<S: Sockets> Wire for UdpWire<S> {
+    ghost takings = { λ _. None };
+
+    ghost gives = { λ _. None };
+
+    ghost faults = { λ wire. wire.failures };
+
+    ghost news = { λ _ _. true };
+
+    ghost ended = { λ _ _ _. false };
+
+    fn take(&mut self, port: Port, room: &mut [u8]) -> Result<Option<(Place, usize)>, WireFault>
+        ensures within { IfOk result (λ found. IfSome found (λ f. f.1 ≤ length room.new)) }
+        ensures fault { OnErr result (self.old.failures < self.new.failures) }
+        ensures takes { (heard : Bool) × TakesAtSocket self.old.groups
+            (S.calls self.old.sockets) (S.calls self.new.sockets)
+            port room.new result self.old.failures self.new.failures heard
+            self.old.unread self.new.unread }
+        ensures groups { self.new.groups ≡ self.old.groups }
+        ensures refusal { self.new.refusal ≡ self.old.refusal }
+    {
+        let (found, _) = self.ask(port, room);
+        found
+    }
+
+    fn give(&mut self, port: Port, to: Place, bytes: &[u8]) -> Result<(), WireFault>
+        ensures fault { OnErr result (self.old.failures < self.new.failures) }
+        ensures gives { GivesAtSocket self.old.groups
+            (S.calls self.old.sockets) (S.calls self.new.sockets)
+            port to bytes.now result self.old.failures self.new.failures
+            self.old.refusal self.new.refusal }
+        ensures groups { self.new.groups ≡ self.old.groups }
+        ensures unread { self.new.unread ≡ self.old.unread }
+    {
+        match self.sockets.give(self.groups.socket_of(port), to, bytes) {
+            Ok(()) => Ok(()),
+            Err(fault) => {
+                self.refusal = Some(Refusal { port, to, fault });
+                fail(&mut self.failures)
+            }
+        }
+    }
+
+    fn rest(&mut self, _most: u64)
+        ensures { self.new ≡ self.old }
+    {}
+
+    fn has_news(&self, _port: Port) -> bool {
+        true
+    }
+
+    fn has_ended(&self, _port: Port, _place: Place) -> bool {
+        false
+    }
+
+    fn failures(&self) -> u64 {
+        self.failures
+    }
+
+    fn refusal(&self) -> Option<Refusal>
+        ensures { result ≡ self.now.refusal }
+    {
+        self.refusal
+    }
+
+    fn unread(&self) -> Option<Unread>
+        ensures { result ≡ self.now.unread }
+    {
+        self.unread
+    }
+}
+
+/// Whether a datagram at a port is an answer to one that was no line.
+#[tactic(auto, unfolding(crate::specs::SocketWires::is_answer))]
+fn is_answer(port: Port, bytes: &[u8]) -> bool
+    ensures { result ≡ is_answer port bytes.now }
+{
+    match port {
+        Port::Pd | Port::Md | Port::PdGroup(_) | Port::MdGroup(_) => false,
+        Port::Operator | Port::Control(_) => begins_as_answer(bytes),
+    }
+}
+
+/// Whether a datagram begins as each answer does to one that was no line.
+#[tactic(auto, unfolding(crate::specs::SocketWires::begins_as_answer))]
+fn begins_as_answer(bytes: &[u8]) -> bool
+    ensures { result ≡ begins_as_answer bytes.now }
+{
+    bytes.starts_with(FAULT_FRONT)
+}

@@ -1,0 +1,2 @@
+pub mod ToldLemmas
+pub mod ControlPortLemmas

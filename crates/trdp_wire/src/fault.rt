@@ -1,0 +1,30 @@
+//! Why a wire doesn't take or give.
+
+ghost use Rattle.std.specs.Prelude.{◌≡◌, ◌<◌, ◌-◌, ◌^◌, nat_lt, is_err, OnErr};
+ghost use Rattle.trdp_wire.specs.Failures.{one_more_if};
+
+use thiserror::Error;
+
+/// The wire can't take or give a datagram.
+#[derive(Clone, Copy, Debug, PartialEq, Eq, Error)]
+#[error("the wire couldn't take or give a datagram")]
+pub struct WireFault;
+
+/// A wire fails. The failure is counted, unless the count is at its last value: then nothing
+/// failed.
+///
+/// # Errors
+/// `WireFault`, where the count rose.
+#[tactic(auto, unfolding(crate::specs::Failures::one_more_if))]
+pub fn fail(failures: &mut u64) -> Result<(), WireFault>
+    ensures fault { OnErr result (failures.old < failures.new) }
+    ensures fails { is_err result ≡ nat_lt failures.old (2 ^ 64 - 1) }
+    ensures count { failures.new ≡ one_more_if (is_err result) failures.old }
+{
+    if *failures < u64::MAX {
+        *failures += 1;
+        Err(WireFault)
+    } else {
+        Ok(())
+    }
+}
