@@ -11,11 +11,11 @@ from counted_lines import count_crate
 from promise_types import Types
 from trace_clauses import Function
 
-# The crates of the node and of scripts. Those around the node are all others but those of tests.
+# The crates of the node, of scripts and of the library for C. Those around the node are all others but those of tests.
 INSIDE = {
     "trdp_base", "trdp_fcs", "trdp_timers", "trdp_head", "trdp_dataset", "trdp_marshal", "trdp_filter", "trdp_pd",
     "trdp_md", "trdp_model", "trdp_table", "trdp_outbox", "trdp_text", "trdp_index", "trdp_store", "trdp_calls",
-    "trdp_datagrams", "trdp_engine", "trdp_example", "trdp_net", "trdp_script",
+    "trdp_datagrams", "trdp_engine", "trdp_example", "trdp_net", "trdp_script", "trdp_node",
 }
 MANY = 7
 # The end of a signature without clauses, and the beginning of the body.
@@ -25,8 +25,8 @@ OPENS = re.compile(r"^(?! *(?:ensures|requires)\b).*\{$")
 def crates(top: pathlib.Path) -> dict[str, list[str]]:
     """Each crate with those of the repository that it depends on, in the order of crates.txt."""
     lines = [line.split(":") for line in (top / "crates.txt").read_text().splitlines() if ":" in line]
-    names = {name for name, _ in lines}
-    return {name: [it for it in below.split() if it in names] for name, below in lines}
+    names = {name.split()[0] for name, _ in lines}
+    return {name.split()[0]: [it for it in below.split() if it in names] for name, below in lines}
 
 
 def chain(top: pathlib.Path) -> list[str]:

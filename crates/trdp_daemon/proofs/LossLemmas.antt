@@ -17,7 +17,7 @@ use Rattle.trdp_wire.specs.declared.port.Port.TheVariants.{Operator, Control}
 use Rattle.trdp_daemon.specs.declared.contact.Contact.{Contact}
 use Rattle.trdp_daemon.specs.declared.totals.Totals.{Totals}
 use Rattle.trdp_wire.specs.Told.{Arrived, Failed, Nothing, Came}
-use Rattle.trdp_daemon.specs.Effects.{both, text_telling, control_place, content_telling}
+use Rattle.trdp_daemon.specs.Effects.{both, text_telling, contact_place, content_telling}
 use Rattle.trdp_daemon.specs.Effects.{record_telling, is_first_lost, later_marks, records_telling}
 use Rattle.trdp_daemon.specs.Effects.{event_records, ServiceState, Loss, LineLost, EventLost}
 use Rattle.trdp_daemon.specs.Effects.{TextsLost, then_effect, telling_only, event_effect}
@@ -45,9 +45,9 @@ record_kept : (contacts : List (Option Contact)) (lost : Bool) (r : RecordModel)
     → content_telling contacts lost r content ≡ content_telling contacts false r content
 unfolding content_telling
 record_kept contacts lost r (Answers answer) none =
-    text_kept r.slot (control_place contacts r.slot) lost (text_of_record r) none
+    text_kept r.slot (contact_place contacts r.slot) lost (text_of_record r) none
 record_kept contacts lost r (Indicates indication) none =
-    text_kept r.slot (control_place contacts r.slot) lost (text_of_record r) none
+    text_kept r.slot (contact_place contacts r.slot) lost (text_of_record r) none
 record_kept contacts lost r (Sends protocol to telegram) none = refl
 
 records_kept : (contacts : List (Option Contact)) (marks : List Bool) (records : List RecordModel)

@@ -15,7 +15,7 @@ use Rattle.trdp_daemon.specs.declared.link.Link.{Link}
 use Rattle.trdp_wire.specs.Told.{Taking, Give}
 use Rattle.trdp_daemon.specs.Effects.{Telling, silence, both, missing, offering}
 use Rattle.trdp_daemon.specs.Effects.{text_telling, content_telling, port_of}
-use Rattle.trdp_daemon.specs.Effects.{control_place, record_telling, records_telling}
+use Rattle.trdp_daemon.specs.Effects.{contact_place, record_telling, records_telling}
 use Rattle.trdp_daemon.specs.Links.{Carries}
 use Rattle.trdp_daemon.specs.Tellings.{Tells, TellsRecord, TellsText}
 use Rattle.trdp_daemon.proofs.LinkLemmas.{carries_none, carries_both}
@@ -126,7 +126,7 @@ record_sent {W} {takings_in} {gives_in} {a} {b} contacts r protocol to telegram 
 pub record_answered : {W : Type 0} {takings_in : W → Option (List Taking)}
     {gives_in : W → Option (List Give)} {a b : Link W} (contacts : List (Option Contact))
     (r : RecordModel) (answer : AnswerModel) → r.content ≡ Answers answer
-    → TellsText takings_in gives_in a b r.slot (control_place contacts r.slot) (text_of_record r)
+    → TellsText takings_in gives_in a b r.slot (contact_place contacts r.slot) (text_of_record r)
     → TellsRecord takings_in gives_in contacts a b r
 unfolding content_telling
 record_answered {W} {takings_in} {gives_in} {a} {b} contacts r answer is told =
@@ -139,7 +139,7 @@ record_answered {W} {takings_in} {gives_in} {a} {b} contacts r answer is told =
 pub record_indicated : {W : Type 0} {takings_in : W → Option (List Taking)}
     {gives_in : W → Option (List Give)} {a b : Link W} (contacts : List (Option Contact))
     (r : RecordModel) (indication : IndicationModel) → r.content ≡ Indicates indication
-    → TellsText takings_in gives_in a b r.slot (control_place contacts r.slot) (text_of_record r)
+    → TellsText takings_in gives_in a b r.slot (contact_place contacts r.slot) (text_of_record r)
     → TellsRecord takings_in gives_in contacts a b r
 unfolding content_telling
 record_indicated {W} {takings_in} {gives_in} {a} {b} contacts r indication is told =

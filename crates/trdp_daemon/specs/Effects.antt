@@ -68,15 +68,15 @@ abbrev pub read_again : ℕ → Contact → Contact
 read_again reading contact = record contact { reading = reading }
 
 -- the control place of a slot, if it has one: where its latest line came from
-abbrev pub control_place : List (Option Contact) → ℕ → Option Place
-control_place contacts slot = option_map (λ contact. contact.place) (contact_of contacts slot)
+abbrev pub contact_place : List (Option Contact) → ℕ → Option Place
+contact_place contacts slot = option_map (λ contact. contact.place) (contact_of contacts slot)
 
 -- a telegram goes where it is sent to; what else a record says goes as its line
 unfoldable pub content_telling : List (Option Contact) → Bool → RecordModel → Content → Telling
 content_telling contacts lost r (Answers answer) =
-    text_telling r.slot (control_place contacts r.slot) lost (text_of_record r)
+    text_telling r.slot (contact_place contacts r.slot) lost (text_of_record r)
 content_telling contacts lost r (Indicates indication) =
-    text_telling r.slot (control_place contacts r.slot) lost (text_of_record r)
+    text_telling r.slot (contact_place contacts r.slot) lost (text_of_record r)
 content_telling contacts lost r (Sends protocol to telegram) =
     offering (port_of protocol) to telegram
 

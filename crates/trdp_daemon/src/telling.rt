@@ -4,7 +4,7 @@ ghost use Rattle.std.specs.Prelude.{◌≡◌};
 ghost use Rattle.trdp_model.specs.Records.{record_model};
 ghost use Rattle.trdp_outbox.specs.SlotOrder.{by_slot};
 ghost use Rattle.trdp_text.specs.RecordText.{text_of_record};
-ghost use Rattle.trdp_daemon.specs.Effects.{control_place, port_of};
+ghost use Rattle.trdp_daemon.specs.Effects.{contact_place, port_of};
 ghost use Rattle.trdp_daemon.specs.Tellings.{Tells, TellsRecord, TellsText};
 
 use crate::contact::{Contact, contact_of};
@@ -72,7 +72,7 @@ fn tell_text<W: Wire>(
 
 /// The control place of a slot; None where it has none.
 fn place_of(contacts: &[Option<Contact>], slot: u16) -> Option<Place>
-    ensures { result ≡ control_place contacts.now slot }
+    ensures { result ≡ contact_place contacts.now slot }
 {
     match contact_of(contacts, slot) {
         Some(contact) => Some(contact.place),

@@ -8,7 +8,7 @@ use Rattle.std.proofs.lemmas.Bool.{eq-eqb, or_from, or_left, or_right, true≢fa
 use Rattle.std.proofs.lemmas.List.Folds.{list_any-append}
 use Rattle.trdp_lines.specs.declared.connections.Accepted.TheVariants.{Came}
 use Rattle.trdp_lines.specs.Closings.{AreOpen, AreOpenIfTold, AreThere, FindsNothing, HasLeft}
-use Rattle.trdp_lines.specs.Closings.{IsThere, IsUnheard, closes, is_among, was_closed}
+use Rattle.trdp_lines.specs.Closings.{IsThere, IsUnheard, closes, is_one_of, was_closed}
 use Rattle.trdp_lines.specs.Connections.{ConnectionCall, Accepts, Closes, NoBytes, Reading, Reads}
 use Rattle.trdp_lines.specs.Connections.{TellsMore, Writes, Writing}
 use Rattle.trdp_lines.specs.Said.{connections_in}
@@ -18,21 +18,21 @@ use Rattle.trdp_lines.proofs.CallLemmas.{come_by}
 there_more : (n : ℕ) (calls more : List ConnectionCall) → IsThere n calls
     → was_closed n more ≡ false → IsThere n (calls ++ more)
 there_more n calls more there none = record {
-  came = ap (is_among n) (come_by calls more)
+  came = ap (is_one_of n) (come_by calls more)
       ∙ list_any-append (λ (m : ℕ). m == n) (connections_in calls) (connections_in more)
-      ∙ or_left (is_among n (connections_in calls)) (is_among n (connections_in more)) there.came;
+      ∙ or_left (is_one_of n (connections_in calls)) (is_one_of n (connections_in more)) there.came;
   unclosed = list_any-append (closes n) calls more
       ∙ or_from (was_closed n calls) (was_closed n more) there.unclosed none;
 }
 
 -- one that came just now is there
 there_next : (n : ℕ) (calls more : List ConnectionCall)
-    → is_among n (connections_in more) ≡ true → was_closed n calls ≡ false
+    → is_one_of n (connections_in more) ≡ true → was_closed n calls ≡ false
     → was_closed n more ≡ false → IsThere n (calls ++ more)
 there_next n calls more came before none = record {
-  came = ap (is_among n) (come_by calls more)
+  came = ap (is_one_of n) (come_by calls more)
       ∙ list_any-append (λ (m : ℕ). m == n) (connections_in calls) (connections_in more)
-      ∙ or_right (is_among n (connections_in calls)) (is_among n (connections_in more)) came;
+      ∙ or_right (is_one_of n (connections_in calls)) (is_one_of n (connections_in more)) came;
   unclosed = list_any-append (closes n) calls more
       ∙ or_from (was_closed n calls) (was_closed n more) before none;
 }
@@ -42,7 +42,7 @@ there_next n calls more came before none = record {
 open_more : (calls calls_then more : List ConnectionCall) (has has_then : ℕ → Bool)
     (came came_then : ℕ) → calls_then ≡ calls ++ more → came ≤ came_then
     → ((n : ℕ) → has_then n ≡ true → (was_closed n more ≡ false)
-    × ((has n ≡ true) ⊎ ((came < n) × (is_among n (connections_in more) ≡ true))))
+    × ((has n ≡ true) ⊎ ((came < n) × (is_one_of n (connections_in more) ≡ true))))
     → ((n : ℕ) → came_then < n → was_closed n more ≡ false)
     → AreOpen calls has came → AreOpen calls_then has_then came_then
 open_more calls calls_then more has has_then came came_then told le placed later all =
@@ -63,7 +63,7 @@ open_told : (calls calls_then : Option (List ConnectionCall)) (more : List Conne
     (has has_then : ℕ → Bool) (came came_then : ℕ) → TellsMore calls calls_then more
     → came ≤ came_then
     → ((n : ℕ) → has_then n ≡ true → (was_closed n more ≡ false)
-    × ((has n ≡ true) ⊎ ((came < n) × (is_among n (connections_in more) ≡ true))))
+    × ((has n ≡ true) ⊎ ((came < n) × (is_one_of n (connections_in more) ≡ true))))
     → ((n : ℕ) → came_then < n → was_closed n more ≡ false)
     → AreOpenIfTold calls has came → AreOpenIfTold calls_then has_then came_then
 open_told None None more has has_then came came_then told le placed later all = tt

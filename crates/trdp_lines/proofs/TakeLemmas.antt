@@ -16,8 +16,8 @@ pub text_after : (old between new : Option (List ConnectionCall))
     → HandsInNext old new left left_then room (Some found) room_then
 text_after old between new left left_between left_then room room_mid found room_then same before
     next = record {
-  text = next.text;
-  handed_in = both_handed_in applications_say old between new left left_between left_then []
-      ((found.0, next.text) ∷ []) before next.handed_in;
-  bytes = next.bytes ∙ ap (λ (n : ℕ). take n next.text) same;
-}
+      text = next.text;
+      handed_in = both_handed_in applications_say old between new left left_between left_then []
+          ((found.0, next.text) ∷ []) before next.handed_in;
+      bytes = next.bytes ∙ ap (λ (n : ℕ). take n next.text) same;
+    }

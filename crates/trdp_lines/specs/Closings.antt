@@ -18,12 +18,12 @@ abbrev pub was_closed : ℕ → List ConnectionCall → Bool
 was_closed n calls = list_any (closes n) calls
 
 -- this number is among these
-abbrev pub is_among : ℕ → List ℕ → Bool
-is_among n numbers = list_any (λ m. m == n) numbers
+abbrev pub is_one_of : ℕ → List ℕ → Bool
+is_one_of n numbers = list_any (λ m. m == n) numbers
 
 -- a connection is there: it came, and wasn't closed
 pub record IsThere (n : ℕ) (calls : List ConnectionCall) : Type 0 where
-  pub came : is_among n (connections_in calls) ≡ true
+  pub came : is_one_of n (connections_in calls) ≡ true
   pub unclosed : was_closed n calls ≡ false
 
 -- each connection that has a seat is there; it is known only where the calls are reported

@@ -36,7 +36,7 @@ fault_told (Some fault) =
     record { number = rank fault; text = filled 60 (text_of_config_fault fault) }
 
 -- what C is told of a configuration in these bytes: its fault, or that it has none
-abbrev pub Answers : List ℕ → Fault → Type 0
-Answers bytes told =
+abbrev pub TellsOpening : List ℕ → Fault → Type 0
+TellsOpening bytes told =
     ((config : ConfigModel) × ReadsToml config_of bytes (Ok config) × (told ≡ fault_told None))
     ⊎ ((fault : ConfigFault) × Refuses bytes fault × (told ≡ fault_told (Some fault)))

@@ -46,7 +46,7 @@ ghost use Rattle.std.specs.Borrow.{sem};
 ghost use Rattle.std_alloc.specs.Box.Ownership.{box_owns};
 ghost use Rattle.std.specs.contracts.impls.GlobalAllocator.TheImpl.{ghosts};
 ghost use Rattle.trdp_node.specs.contracts.held.Held.{the_row as held_row};
-ghost use Rattle.trdp_node.specs.Openings.{Answers};
+ghost use Rattle.trdp_node.specs.Openings.{TellsOpening};
 ghost use Rattle.trdp_node.specs.Outcomes.{Prints, ShowsRecord, Steps, TakesInLine, TellsState};
 
 use crate::held::Held;
@@ -65,7 +65,7 @@ pub extern "C" fn trdp_node_raw_open(
     at: &mut *mut u8,
     fault: &mut Fault,
 )
-    ensures { Answers config.now fault.new }
+    ensures { TellsOpening config.now fault.new }
 {
     match Held::open(alloc, config) {
         Ok(held) => {
