@@ -26,7 +26,8 @@ not_less x z above = by (nat_lt x z) refl
     by true e = let a = ltb-true x z e in absurd (omega (arith, a, above))
     by false e = e
 
-at_most : (x y : ℕ) → nat_lt x y ≡ false → y ≤ x
+-- a test that finds no smaller number, the other way round
+pub at_most : (x y : ℕ) → nat_lt x y ≡ false → y ≤ x
 at_most x y e = by (nat_lt x y) refl
   where
     by : (b : Bool) → nat_lt x y ≡ b → y ≤ x

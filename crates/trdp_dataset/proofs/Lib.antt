@@ -16,3 +16,8 @@ pub mod LoopLemmas
 pub mod TwiceLemmas
 pub mod LeastLemmas
 pub mod SingleFaultLemmas
+pub mod ListedLemmas
+pub mod MemberLemmas
+pub mod FullLemmas
+pub mod FitLemmas
+pub mod MisfitLemmas

@@ -59,7 +59,7 @@ first_by : {X : Type 0} → (b : Bool) (z x : X) (one more : Option X)
 first_by true z x one more later e = e
 first_by false z x one more later e = later e
 
-first_of_two : {X : Type 0} → (p : X → Bool) (xs ys : List X) (x : X)
+pub first_of_two : {X : Type 0} → (p : X → Bool) (xs ys : List X) (x : X)
     → Some x ≡ find p xs → Some x ≡ find p (xs ++ ys)
 first_of_two p [] ys x e = cc
 first_of_two p (z ∷ xs) ys x e =
@@ -70,7 +70,7 @@ second_by : {X : Type 0} → (b : Bool) (z : X) (one more rest : Option X)
 second_by true z one more rest later e = cc
 second_by false z one more rest later e = later e
 
-second_of_two : {X : Type 0} → (p : X → Bool) (xs ys : List X)
+pub second_of_two : {X : Type 0} → (p : X → Bool) (xs ys : List X)
     → None ≡ find p xs → find p (xs ++ ys) ≡ find p ys
 second_of_two p [] ys e = refl
 second_of_two p (z ∷ xs) ys e =

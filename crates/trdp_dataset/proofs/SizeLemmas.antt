@@ -4,6 +4,7 @@
 use Rattle.std.proofs.Common.{◌≡◌, ℕ, zero, suc, ◌+◌, ◌*◌, ◌<◌, ◌≤◌, ◌&&◌, nat_le, if◌then◌else◌}
 use Rattle.std.proofs.Common.{Bool, true, false, List, [], ◌∷◌, length, drop, get_or, map}
 use Rattle.std.proofs.Common.{replicate, Some, None, refl, sym, ap, ◌∙◌, arith, inl, inr, ◌⊎◌}
+use Rattle.std.proofs.Common.{lit<}
 use Rattle.std.specs.Prelude.{min, unwrap_or}
 use Rattle.std.specs.List.{list_all}
 use Rattle.std.proofs.lemmas.Bool.{and_parts}
@@ -18,6 +19,7 @@ use Rattle.trdp_dataset.specs.declared.element.Form.{Form}
 use Rattle.trdp_dataset.specs.Elements.{form_of}
 use Rattle.trdp_dataset.specs.Datasets.{DatasetModel, elements_of, is_known}
 use Rattle.trdp_dataset.specs.ZeroSizes.{form_size, entries_size, dataset_size, zero_size}
+use Rattle.trdp_dataset.specs.Limits.{size_cap}
 use Rattle.trdp_dataset.specs.Stored.{size_row, zero_sizes_of}
 use Rattle.trdp_dataset.proofs.LookupLemmas.{none_found}
 
@@ -74,33 +76,38 @@ unknown_size registry (suc depth) id unknown =
     (none_found (elements_of registry id) (sym unknown))
 
 pub no_size_row : (registry ds : List DatasetModel) → replicate (length ds) 0
-    ≡ map (λ (d : DatasetModel). min (dataset_size registry 0 d.id) 65389) ds
+    ≡ map (λ (d : DatasetModel). min (dataset_size registry 0 d.id) size_cap) ds
 unfolding dataset_size
 no_size_row registry [] = refl
 no_size_row registry (d ∷ ds) = ap (λ xs. 0 ∷ xs) (no_size_row registry ds)
 
-small_by : (x bound : ℕ) → (x < suc bound) ⊎ (suc bound ≤ x)
-    → nat_le (min x (suc bound)) bound ≡ nat_le x bound
-small_by x bound (inl below) = let same : min x (suc bound) ≡ x = omega arith in
+small_by : (x bound cap : ℕ) → bound < cap → (x < cap) ⊎ (cap ≤ x)
+    → nat_le (min x cap) bound ≡ nat_le x bound
+small_by x bound cap room (inl below) = let same : min x cap ≡ x = omega arith in
     ap (λ n. nat_le n bound) same
-small_by x bound (inr above) = let same : min x (suc bound) ≡ suc bound =
+small_by x bound cap room (inr above) = let same : min x cap ≡ cap =
     omega arith in grind (arith, nat_tests)
 
-small_tested : (x bound : ℕ) → nat_le (min x (suc bound)) bound ≡ nat_le x bound
-small_tested x bound = small_by x bound (cases_lt x (suc bound))
+-- a size is small enough where what is counted of it is
+pub small_tested : (x bound cap : ℕ) → bound < cap → nat_le (min x cap) bound ≡ nat_le x bound
+small_tested x bound cap room = small_by x bound cap room (cases_lt x cap)
 
-small_kept : (x bound : ℕ) → nat_le x bound ≡ true → min x (suc bound) ≡ x
-small_kept x bound small = let below : x ≤ bound = leb-true x bound small in omega arith
+-- more is counted than a zero value may have
+pub countable : 65388 < size_cap
+countable = lit< tt
+
+small_kept : (x bound cap : ℕ) → bound < cap → nat_le x bound ≡ true → min x cap ≡ x
+small_kept x bound cap room small = let below : x ≤ bound = leb-true x bound small in omega arith
 
 small_list : (registry ds : List DatasetModel) → list_all (λ n. nat_le n 65388)
-    (map (λ (d : DatasetModel). min (dataset_size registry 5 d.id) 65389) ds)
+    (map (λ (d : DatasetModel). min (dataset_size registry 5 d.id) size_cap) ds)
     ≡ list_all (λ (d : DatasetModel). nat_le (zero_size registry d.id) 65388) ds
 unfolding zero_size
 small_list registry [] = refl
 small_list registry (d ∷ ds) =
     ap (λ b. b && list_all (λ n. nat_le n 65388)
-    (map (λ (m : DatasetModel). min (dataset_size registry 5 m.id) 65389) ds))
-    (small_tested (dataset_size registry 5 d.id) 65388)
+    (map (λ (m : DatasetModel). min (dataset_size registry 5 m.id) size_cap) ds))
+    (small_tested (dataset_size registry 5 d.id) 65388 size_cap countable)
     ∙ ap (λ b. nat_le (dataset_size registry 5 d.id) 65388 && b) (small_list registry ds)
 
 -- each size is small enough where each zero value is
@@ -111,15 +118,15 @@ all_small registry sizes e = ap (list_all (λ n. nat_le n 65388)) e ∙ small_li
 
 exact_list : (registry ds : List DatasetModel)
     → list_all (λ (d : DatasetModel). nat_le (zero_size registry d.id) 65388) ds ≡ true
-    → map (λ (d : DatasetModel). min (dataset_size registry 5 d.id) 65389) ds
+    → map (λ (d : DatasetModel). min (dataset_size registry 5 d.id) size_cap) ds
     ≡ map (λ (d : DatasetModel). zero_size registry d.id) ds
 unfolding zero_size
 exact_list registry [] small = refl
 exact_list registry (d ∷ ds) small =
     let parts = and_parts (nat_le (dataset_size registry 5 d.id) 65388)
     (list_all (λ (m : DatasetModel). nat_le (dataset_size registry 5 m.id) 65388) ds) small in
-    ap (λ n. n ∷ map (λ (m : DatasetModel). min (dataset_size registry 5 m.id) 65389) ds)
-    (small_kept (dataset_size registry 5 d.id) 65388 parts.0)
+    ap (λ n. n ∷ map (λ (m : DatasetModel). min (dataset_size registry 5 m.id) size_cap) ds)
+    (small_kept (dataset_size registry 5 d.id) 65388 size_cap countable parts.0)
     ∙ ap (λ ns. dataset_size registry 5 d.id ∷ ns) (exact_list registry ds parts.1)
 
 -- the sizes are those of the zero values where all are small
@@ -136,3 +143,11 @@ pub big_shown : (registry : List DatasetModel) (sizes : List ℕ) (b : Bool)
 unfolding too_big_in
 big_shown registry sizes b e small =
     ap (λ v. if v then None else Some TooBig) (sym (all_small registry sizes e) ∙ sym small)
+
+-- a product and then a sum that are counted up to a bound
+pub sum_capped : (t x bound : ℕ) → min (t + min x bound) bound ≡ min (t + x) bound
+sum_capped t x bound = by (cases_lt x bound)
+  where
+    by : (x < bound) ⊎ (bound ≤ x) → min (t + min x bound) bound ≡ min (t + x) bound
+    by (inl below) = let same : min x bound ≡ x = omega arith in rw same refl
+    by (inr above) = let same : min x bound ≡ bound = omega arith in rw same (omega arith)

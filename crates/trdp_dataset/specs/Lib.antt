@@ -16,3 +16,5 @@ pub mod Configs
 pub mod Adding
 pub mod StoredSlots
 pub mod Groups
+pub mod Findings
+pub mod Misfits

@@ -6,3 +6,7 @@ use Rattle.std.specs.Prelude.{ℕ}
 -- rule: dataset.size
 abbrev pub value_limit : ℕ
 value_limit = 65388
+
+-- the most bytes that are counted: a zero value that has more counts as one of that many
+abbrev pub size_cap : ℕ
+size_cap = 18446744073709551615

@@ -17,6 +17,14 @@ pub record PositionModel : Type 0 where
 abbrev pub value_at : Key → Members → Option Data
 value_at key members = get_member (key_text key) members
 
+abbrev pub items_found : Option Data → List Data
+items_found None = []
+items_found (Some d) = items_in d
+
+-- the members of the array at a key
+unfoldable pub items_at : Key → Members → List Data
+items_at key members = items_found (value_at key members)
+
 -- the tables among the members of an array; there are none where there is no array
 abbrev pub tables_in : Option Data → List Members
 tables_in None = []

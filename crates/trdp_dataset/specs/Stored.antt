@@ -3,6 +3,7 @@ use Rattle.std.specs.Prelude.{ℕ, Bool, List, map, min, Vec}
 use Rattle.std.specs.declared.alloc.Global.{Global}
 use Rattle.trdp_dataset.specs.declared.element.Element.{Element}
 use Rattle.trdp_dataset.specs.Datasets.{DatasetModel}
+use Rattle.trdp_dataset.specs.Limits.{size_cap}
 use Rattle.trdp_dataset.specs.ZeroSizes.{dataset_size, zero_size}
 use Rattle.trdp_dataset.specs.Depths.{is_within}
 
@@ -18,6 +19,7 @@ zero_sizes_of registry = map (λ d. zero_size registry d.id) registry
 abbrev pub within_row : List DatasetModel → ℕ → List Bool
 within_row registry depth = map (λ d. is_within registry depth d.id) registry
 
--- the zero value of each dataset down to a depth, or 65389 bytes where it is longer, in order
+-- how many bytes the zero value of each dataset has down to a depth, as far as they are counted, in
+-- order
 abbrev pub size_row : List DatasetModel → ℕ → List ℕ
-size_row registry depth = map (λ d. min (dataset_size registry depth d.id) 65389) registry
+size_row registry depth = map (λ d. min (dataset_size registry depth d.id) size_cap) registry

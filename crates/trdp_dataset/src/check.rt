@@ -4,6 +4,7 @@ ghost use Rattle.std.specs.Prelude.{◌≡◌, false, not, nat_le, find, IfOk};
 ghost use Rattle.std.specs.List.{list_all};
 ghost use Rattle.trdp_dataset.specs.Stored.{zero_sizes_of};
 ghost use Rattle.trdp_dataset.specs.Datasets.{is_known, all_counted};
+ghost use Rattle.trdp_dataset.specs.Misfits.{lacks_count};
 ghost use Rattle.trdp_dataset.specs.Limits.{value_limit};
 ghost use Rattle.trdp_dataset.specs.Faults.{nested_ids, no_dataset_in, no_count_in};
 ghost use Rattle.trdp_dataset.specs.Faults.{too_big_in, fit_fault, RefusedAs};
@@ -16,7 +17,7 @@ use crate::size::zero_sizes;
 use std::alloc::Global;
 
 /// The most bytes of a dataset's zero value: what a message carries (IEC 61375-2-3:2015, Annex A).
-const VALUE_MAX: u32 = 65_388;
+pub(crate) const VALUE_MAX: u64 = 65_388;
 
 /// The first dataset that the elements are of and that isn't there.
 fn unknown_in(datasets: &Datasets, elements: &[Element]) -> Option<u32>
@@ -43,13 +44,20 @@ pub(crate) fn no_dataset(datasets: &Datasets) -> Option<ConfigFault>
     None
 }
 
+/// Whether an element is an array of size 0 without a count of its items before it.
+pub(crate) fn lacks_count(is_counted: bool, element: Element) -> bool
+    ensures { result ≡ lacks_count is_counted element }
+{
+    element.size == 0 && !is_counted
+}
+
 /// Whether each array of size 0 comes after an element that counts its items.
 fn is_counted(elements: &[Element]) -> bool
     ensures value { result ≡ all_counted false elements.now }
 {
     let mut counted = false;
     for element in elements {
-        if element.size == 0 && !counted {
+        if lacks_count(counted, *element) {
             return false;
         }
         counted = element.is_count();
@@ -71,14 +79,14 @@ pub(crate) fn no_count(datasets: &Datasets) -> Option<ConfigFault>
 }
 
 /// Whether a zero value of that many bytes is small enough.
-fn is_small(size: u32) -> bool
+pub(crate) fn is_small(size: u64) -> bool
     ensures { result ≡ nat_le size value_limit }
 {
     size <= VALUE_MAX
 }
 
 /// Whether each size is small enough.
-fn all_small(sizes: &[u32]) -> bool
+fn all_small(sizes: &[u64]) -> bool
     ensures { result ≡ list_all (λ size. nat_le size value_limit) sizes.now }
 {
     sizes.iter().all(|size| is_small(*size))
@@ -86,7 +94,7 @@ fn all_small(sizes: &[u32]) -> bool
 
 /// The zero sizes of datasets in order, if each is small enough.
 #[tactic(auto, unfolding(crate::specs::Faults::too_big_in))]
-fn small_sizes(alloc: Global, datasets: &Datasets) -> Result<Vec<u32>, ConfigFault>
+fn small_sizes(alloc: Global, datasets: &Datasets) -> Result<Vec<u64>, ConfigFault>
     ensures sizes { IfOk result (λ sizes. sizes.items ≡ zero_sizes_of datasets.now) }
     ensures answers { RefusedAs (too_big_in datasets.now) result }
 {
@@ -99,7 +107,7 @@ fn small_sizes(alloc: Global, datasets: &Datasets) -> Result<Vec<u32>, ConfigFau
 }
 
 /// The zero sizes of datasets that fit together, in order.
-pub(crate) fn fit_together(alloc: Global, datasets: &Datasets) -> Result<Vec<u32>, ConfigFault>
+pub(crate) fn fit_together(alloc: Global, datasets: &Datasets) -> Result<Vec<u64>, ConfigFault>
     ensures sizes { IfOk result (λ sizes. sizes.items ≡ zero_sizes_of datasets.now) }
     ensures answers { RefusedAs (fit_fault datasets.now) result }
 {

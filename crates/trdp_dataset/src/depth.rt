@@ -13,6 +13,12 @@ use crate::datasets::Datasets;
 use crate::element::{Element, Form};
 use std::alloc::{AllocError, Global};
 
+/// How deep datasets may nest, the outermost included (profile).
+pub(crate) const DEPTH_MAX: u8 = 5;
+
+/// How deep a dataset may nest that is nested in another one.
+pub(crate) const NESTED_MAX: u8 = DEPTH_MAX - 1;
+
 /// Whether the dataset of a nested type passes; `within` says it of each dataset in order. Basic
 /// types pass.
 fn passes(datasets: &Datasets, within: &[bool], form: Form) -> bool
@@ -30,7 +36,7 @@ fn passes(datasets: &Datasets, within: &[bool], form: Form) -> bool
 }
 
 /// Whether each dataset that the elements are of passes.
-fn all_pass(datasets: &Datasets, within: &[bool], elements: &[Element]) -> bool
+pub(crate) fn all_pass(datasets: &Datasets, within: &[bool], elements: &[Element]) -> bool
     requires { length within.now ≡ length datasets.now }
     ensures { (depth : ℕ) → within.now ≡ within_row datasets.now depth
         → result ≡ all_pass (is_within datasets.now depth) elements.now }
@@ -84,15 +90,26 @@ fn all_true(within: &[bool]) -> bool
     within.iter().all(|is_within| *is_within)
 }
 
+/// Of each dataset whether it may be nested in another one: whether it is of a depth one smaller than
+/// the greatest.
+pub(crate) fn nestable(alloc: Global, datasets: &Datasets) -> Result<Vec<bool>, AllocError>
+    ensures len { IfOk result (λ within. length within.items ≡ length datasets.now) }
+    ensures row { IfOk result (λ within. within.items ≡ within_row datasets.now 4) }
+{
+    let mut within = none_within(alloc, datasets)?;
+    for _ in 0..NESTED_MAX {
+        within = one_deeper(alloc, datasets, &within)?;
+    }
+    Ok(within)
+}
+
 /// Whether a dataset nests deeper than 5.
 #[tactic(auto, unfolding(crate::specs::Faults::too_deep_in))]
 pub(crate) fn too_deep(alloc: Global, datasets: &Datasets) -> Result<bool, AllocError>
     ensures value { IfOk result (λ deep.
         too_deep_in datasets.now ≡ (if deep then Some TooDeep else None)) }
 {
-    let mut within = none_within(alloc, datasets)?;
-    for _ in 0..5u8 {
-        within = one_deeper(alloc, datasets, &within)?;
-    }
+    let nestable = nestable(alloc, datasets)?;
+    let within = one_deeper(alloc, datasets, &nestable)?;
     Ok(!all_true(&within))
 }

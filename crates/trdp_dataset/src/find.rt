@@ -1,25 +1,42 @@
 //! All faults of a file.
 
+ghost use Rattle.std.specs.Prelude.{◌≡◌, ◌++◌, option_map, IfOk, OnOk};
+ghost use Rattle.toml.specs.View.{view, table_view};
+ghost use Rattle.toml.specs.Data.{as_table};
+ghost use Rattle.trdp_dataset.specs.Keys.{slot_keys, dataset_keys, element_keys};
+ghost use Rattle.trdp_dataset.specs.Positions.{position_at, positions_at, node_positions};
+ghost use Rattle.trdp_dataset.specs.Positions.{slot_positions, positions_of_all, tables_at};
+ghost use Rattle.trdp_dataset.specs.Positions.{element_positions, dataset_positions};
+ghost use Rattle.trdp_dataset.specs.Configs.{config_fault_of};
+ghost use Rattle.trdp_dataset.specs.Findings.{faults_of, least_of, faults_at, all_faults};
+ghost use Rattle.trdp_dataset.specs.Findings.{key_faults, positions_if, elements_if};
+
 use crate::fault::ConfigFault;
 use crate::finding::{Cause, Finding};
 use crate::key::{Key, Wanted};
+use crate::members::{array_in, most_members, push_members};
 use crate::misfit::push_misfits;
-use crate::place::{DatasetName, Place, node_in};
-use crate::position::{DATASET_KEYS, ELEMENT_KEYS, NODE_KEYS, SLOT_KEYS, members_at, value_at};
-use crate::value::{address_within, any_gives, items};
+use crate::place::{DatasetName, Place};
+use crate::position::{
+    DATASET_KEYS, ELEMENT_KEYS, NODE_KEYS, SLOT_KEYS, members_at, node_in, value_at,
+};
+use crate::value::items;
 use std::alloc::{AllocError, Global};
 use toml::{Table, Value};
 
-/// The faults of a file, in the order in which faults are looked for.
+/// The faults of a file, in the order in which faults are looked for. The first of the lowest
+/// number is the fault for which the file is refused.
 ///
 /// # Errors
 /// [`AllocError`] where there is no memory.
-pub(crate) fn find_all(alloc: Global, top: &Table) -> Result<Vec<Finding<'_>>, AllocError> {
+pub(crate) fn find_all(alloc: Global, top: &Table) -> Result<Vec<Finding<'_>>, AllocError>
+    ensures first { IfOk result (λ found.
+        least_of (faults_of found.items) ≡ config_fault_of (table_view top.now)) }
+{
     let mut found = Vec::new(alloc);
     push_node(&mut found, top)?;
     push_slots(&mut found, top)?;
-    push_dataset_tables(&mut found, top)?;
-    push_elements(&mut found, top)?;
+    push_datasets(&mut found, top)?;
     push_misfits(alloc, &mut found, top)?;
     Ok(found)
 }
@@ -33,92 +50,73 @@ fn push_table<'a>(
     table: &'a Table,
     place: Place,
     keys: &[Key],
-) -> Result<(), AllocError> {
+) -> Result<(), AllocError>
+    ensures faults { OnOk result (faults_of found.new.items ≡ faults_of found.old.items
+        ++ all_faults (positions_at keys.now (table_view table.now))) }
+{
     for key in keys {
-        let value = value_at(table, *key);
-        if let Some(fault) = key.fault(value) {
-            push_key(found, fault, place, *key, value)?;
-        }
+        push_position(found, table, place, *key)?;
     }
     Ok(())
 }
 
-/// Adds the faults at a key that has one.
+/// Adds the faults at a key of a table, if there are any.
 ///
 /// # Errors
 /// [`AllocError`] where there is no memory.
+fn push_position<'a>(
+    found: &mut Vec<Finding<'a>>,
+    table: &'a Table,
+    place: Place,
+    key: Key,
+) -> Result<(), AllocError>
+    ensures faults { OnOk result (faults_of found.new.items ≡ faults_of found.old.items
+        ++ faults_at (position_at (table_view table.now) key)) }
+{
+    let value = value_at(table, key);
+    match key.fault(value) {
+        Some(fault) => push_key(found, fault, place, key, value),
+        None => Ok(()),
+    }
+}
+
+/// Adds the faults at a key that has one: those of the members where an array of numbers or of
+/// addresses is expected and there is an array.
+///
+/// # Errors
+/// [`AllocError`] where there is no memory.
+#[tactic(auto, unfolding(crate::specs::Findings::key_faults))]
 fn push_key<'a>(
     found: &mut Vec<Finding<'a>>,
     fault: ConfigFault,
     place: Place,
     key: Key,
     value: Option<&'a Value>,
-) -> Result<(), AllocError> {
-    let cause = match (value, key.wanted()) {
-        (None, _) => Cause::Absent(key),
-        (Some(value), Wanted::Numbers(most, ..) | Wanted::Addresses(most, ..))
-            if value.is_array() => {
-            return push_members(found, place, key, most, items(value));
+) -> Result<(), AllocError>
+    ensures faults { OnOk result (faults_of found.new.items ≡ faults_of found.old.items
+        ++ key_faults key (option_map (λ v. view v.now) value.entry) fault) }
+{
+    if let Some(most) = most_members(key) {
+        if let Some(members) = array_in(value) {
+            return push_members(found, place, key, most, members);
         }
-        (Some(value), Wanted::Tables(most)) if fault == ConfigFault::TooMany => {
-            Cause::TooMany(key, items(value).len(), most)
-        }
-        (Some(value), _) => Cause::Unwanted(key, value),
-    };
+    }
     found.push(Finding {
         fault,
         place,
-        cause,
+        cause: cause_at(key, fault, value),
     })?;
     Ok(())
 }
 
-/// Adds the faults of an array of numbers or of addresses, of which at most `most` are allowed.
-///
-/// # Errors
-/// [`AllocError`] where there is no memory.
-fn push_members<'a>(
-    found: &mut Vec<Finding<'a>>,
-    place: Place,
-    key: Key,
-    most: u16,
-    members: &'a [Value],
-) -> Result<(), AllocError> {
-    // Where there are too many, none is looked for among those before it.
-    let are_few = members.len() <= usize::from(most);
-    for (index, member) in members.iter().enumerate() {
-        let before = if are_few {
-            &members[..index]
-        } else {
-            &members[..0]
-        };
-        if !is_wanted(key, before, member) {
-            found.push(Finding {
-                fault: ConfigFault::WrongType(key),
-                place,
-                cause: Cause::UnwantedMember(key, index, member),
-            })?;
+/// What is wrong at a key with that fault.
+fn cause_at(key: Key, fault: ConfigFault, value: Option<&Value>) -> Cause<'_> {
+    match (value, key.wanted()) {
+        (None, _) => Cause::Absent(key),
+        (Some(value), Wanted::Tables(most)) if fault == ConfigFault::TooMany => {
+            Cause::TooMany(key, items(value).len(), most)
         }
-    }
-    if members.len() > usize::from(most) {
-        found.push(Finding {
-            fault: ConfigFault::TooMany,
-            place,
-            cause: Cause::TooMany(key, members.len(), most),
-        })?;
-    }
-    Ok(())
-}
-
-/// Whether a member of an array is what the key needs. An address is that only once: where it is
-/// among the members before, it isn't.
-fn is_wanted(key: Key, before: &[Value], member: &Value) -> bool {
-    match key.wanted() {
-        Wanted::Addresses(_, least, most) => match address_within(member, least, most) {
-            Some(address) => !any_gives(before, least, most, address),
-            None => false,
-        },
-        wanted => wanted.member(member).is_some(),
+        (Some(value), _) => Cause::Unwanted(key, value),
     }
 }
 
@@ -126,7 +124,10 @@ fn is_wanted(key: Key, before: &[Value], member: &Value) -> bool {
 ///
 /// # Errors
 /// [`AllocError`] where there is no memory.
-fn push_node<'a>(found: &mut Vec<Finding<'a>>, top: &'a Table) -> Result<(), AllocError> {
+fn push_node<'a>(found: &mut Vec<Finding<'a>>, top: &'a Table) -> Result<(), AllocError>
+    ensures faults { OnOk result (faults_of found.new.items ≡ faults_of found.old.items
+        ++ all_faults (node_positions (table_view top.now))) }
+{
     push_table(found, top, Place::Root, &[Key::Node])?;
     match node_in(top) {
         Some(node) => push_table(found, node, Place::Node, &NODE_KEYS),
@@ -138,42 +139,128 @@ fn push_node<'a>(found: &mut Vec<Finding<'a>>, top: &'a Table) -> Result<(), All
 ///
 /// # Errors
 /// [`AllocError`] where there is no memory.
-fn push_slots<'a>(found: &mut Vec<Finding<'a>>, top: &'a Table) -> Result<(), AllocError> {
+fn push_slots<'a>(found: &mut Vec<Finding<'a>>, top: &'a Table) -> Result<(), AllocError>
+    ensures faults { OnOk result (faults_of found.new.items ≡ faults_of found.old.items
+        ++ all_faults (slot_positions (table_view top.now))) }
+{
     push_table(found, top, Place::Root, &[Key::Slot])?;
-    for (slot, member) in members_at(top, Key::Slot).iter().enumerate() {
-        if let Some(table) = member.as_table() {
-            push_table(found, table, Place::Slot(slot), &SLOT_KEYS)?;
-        }
+    push_slot_tables(found, top)
+}
+
+/// Adds the faults at the keys of each slot.
+///
+/// # Errors
+/// [`AllocError`] where there is no memory.
+fn push_slot_tables<'a>(found: &mut Vec<Finding<'a>>, top: &'a Table) -> Result<(), AllocError>
+    ensures faults { OnOk result (faults_of found.new.items ≡ faults_of found.old.items
+        ++ all_faults (positions_of_all slot_keys (tables_at Key.Slot (table_view top.now)))) }
+{
+    let members = members_at(top, Key::Slot);
+    for (slot, member) in members.iter().enumerate() {
+        push_slot(found, member, slot)?;
     }
     Ok(())
 }
 
-/// Adds the faults at the keys of the datasets, those of their elements left out.
+/// Adds the faults at the keys of a slot, if the member of the array is a table.
 ///
 /// # Errors
 /// [`AllocError`] where there is no memory.
-fn push_dataset_tables<'a>(found: &mut Vec<Finding<'a>>, top: &'a Table) -> Result<(), AllocError> {
+fn push_slot<'a>(
+    found: &mut Vec<Finding<'a>>,
+    member: &'a Value,
+    slot: usize,
+) -> Result<(), AllocError>
+    ensures faults { OnOk result (faults_of found.new.items ≡ faults_of found.old.items
+        ++ all_faults (positions_if slot_keys (as_table (view member.now)))) }
+{
+    match member.as_table() {
+        Some(table) => push_table(found, table, Place::Slot(slot), &SLOT_KEYS),
+        None => Ok(()),
+    }
+}
+
+/// Adds the faults at the keys of the datasets, and then those of their elements.
+///
+/// # Errors
+/// [`AllocError`] where there is no memory.
+fn push_datasets<'a>(found: &mut Vec<Finding<'a>>, top: &'a Table) -> Result<(), AllocError>
+    ensures faults { OnOk result (faults_of found.new.items ≡ faults_of found.old.items
+        ++ all_faults (dataset_positions (table_view top.now))) }
+{
     push_table(found, top, Place::Root, &[Key::Dataset])?;
-    for (index, member) in members_at(top, Key::Dataset).iter().enumerate() {
-        if let Some(table) = member.as_table() {
-            let place = Place::Dataset(DatasetName::of(table, index));
-            push_table(found, table, place, &DATASET_KEYS)?;
-        }
+    push_dataset_tables(found, top)?;
+    push_elements(found, top)
+}
+
+/// Adds the faults at the keys of each dataset, those of its elements left out.
+///
+/// # Errors
+/// [`AllocError`] where there is no memory.
+fn push_dataset_tables<'a>(found: &mut Vec<Finding<'a>>, top: &'a Table) -> Result<(), AllocError>
+    ensures faults { OnOk result (faults_of found.new.items ≡ faults_of found.old.items
+        ++ all_faults (positions_of_all dataset_keys
+        (tables_at Key.Dataset (table_view top.now)))) }
+{
+    let members = members_at(top, Key::Dataset);
+    for (index, member) in members.iter().enumerate() {
+        push_dataset(found, member, index)?;
     }
     Ok(())
+}
+
+/// Adds the faults at the keys of a dataset, if the member of the array is a table.
+///
+/// # Errors
+/// [`AllocError`] where there is no memory.
+fn push_dataset<'a>(
+    found: &mut Vec<Finding<'a>>,
+    member: &'a Value,
+    index: usize,
+) -> Result<(), AllocError>
+    ensures faults { OnOk result (faults_of found.new.items ≡ faults_of found.old.items
+        ++ all_faults (positions_if dataset_keys (as_table (view member.now)))) }
+{
+    match member.as_table() {
+        Some(table) => {
+            let place = Place::Dataset(DatasetName::of(table, index));
+            push_table(found, table, place, &DATASET_KEYS)
+        }
+        None => Ok(()),
+    }
 }
 
 /// Adds the faults at the keys of the elements of all datasets.
 ///
 /// # Errors
 /// [`AllocError`] where there is no memory.
-fn push_elements<'a>(found: &mut Vec<Finding<'a>>, top: &'a Table) -> Result<(), AllocError> {
-    for (index, member) in members_at(top, Key::Dataset).iter().enumerate() {
-        if let Some(table) = member.as_table() {
-            push_elements_of(found, table, DatasetName::of(table, index))?;
-        }
+fn push_elements<'a>(found: &mut Vec<Finding<'a>>, top: &'a Table) -> Result<(), AllocError>
+    ensures faults { OnOk result (faults_of found.new.items ≡ faults_of found.old.items
+        ++ all_faults (element_positions (tables_at Key.Dataset (table_view top.now)))) }
+{
+    let members = members_at(top, Key::Dataset);
+    for (index, member) in members.iter().enumerate() {
+        push_elements_at(found, member, index)?;
     }
     Ok(())
+}
+
+/// Adds the faults at the keys of the elements of a dataset, if the member of the array is a table.
+///
+/// # Errors
+/// [`AllocError`] where there is no memory.
+fn push_elements_at<'a>(
+    found: &mut Vec<Finding<'a>>,
+    member: &'a Value,
+    index: usize,
+) -> Result<(), AllocError>
+    ensures faults { OnOk result (faults_of found.new.items ≡ faults_of found.old.items
+        ++ all_faults (elements_if (as_table (view member.now)))) }
+{
+    match member.as_table() {
+        Some(table) => push_elements_of(found, table, DatasetName::of(table, index)),
+        None => Ok(()),
+    }
 }
 
 /// Adds the faults at the keys of the elements of a dataset.
@@ -184,11 +271,33 @@ fn push_elements_of<'a>(
     found: &mut Vec<Finding<'a>>,
     dataset: &'a Table,
     name: DatasetName,
-) -> Result<(), AllocError> {
-    for (index, member) in members_at(dataset, Key::Elements).iter().enumerate() {
-        if let Some(table) = member.as_table() {
-            push_table(found, table, Place::Element(name, index), &ELEMENT_KEYS)?;
-        }
+) -> Result<(), AllocError>
+    ensures faults { OnOk result (faults_of found.new.items ≡ faults_of found.old.items
+        ++ all_faults (positions_of_all element_keys
+        (tables_at Key.Elements (table_view dataset.now)))) }
+{
+    let members = members_at(dataset, Key::Elements);
+    for (index, member) in members.iter().enumerate() {
+        push_element(found, member, name, index)?;
     }
     Ok(())
+}
+
+/// Adds the faults at the keys of an element, if the member of the array is a table.
+///
+/// # Errors
+/// [`AllocError`] where there is no memory.
+fn push_element<'a>(
+    found: &mut Vec<Finding<'a>>,
+    member: &'a Value,
+    name: DatasetName,
+    index: usize,
+) -> Result<(), AllocError>
+    ensures faults { OnOk result (faults_of found.new.items ≡ faults_of found.old.items
+        ++ all_faults (positions_if element_keys (as_table (view member.now)))) }
+{
+    match member.as_table() {
+        Some(table) => push_table(found, table, Place::Element(name, index), &ELEMENT_KEYS),
+        None => Ok(()),
+    }
 }

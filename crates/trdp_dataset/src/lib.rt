@@ -17,10 +17,11 @@
 //! `trdp_marshal` encodes values of a [`Registry`]; the program starts a node of a [`NodeConfig`].
 //!
 //! Proved: what a file means, and which fault it has, are functions of the table that its text is;
-//! reading the table is up to `toml`. Every registry is sound ([`Registry::sound`]).
+//! reading the table is up to `toml`. Every registry is sound ([`Registry::sound`]). Of the faults
+//! that `fault_place` lists, the first of the lowest number is the one that the file has.
 //!
-//! Covered by tests alone: the sentence of a fault, and the words of `fault_place`, `unknown_keys`,
-//! `name_doubts` and `telegram_doubts`, which have no clauses.
+//! Covered by tests alone: the sentence of a fault, the lines and the words of `fault_place`, and the
+//! words of `unknown_keys`, `name_doubts` and `telegram_doubts`, which have no clauses.
 #![tactic(auto)]
 
 mod check;
@@ -37,8 +38,10 @@ mod fixed;
 mod key;
 mod lines;
 mod load;
+mod members;
 mod misfit;
 mod name;
+mod nested;
 mod parse;
 mod place;
 mod position;
@@ -46,6 +49,7 @@ mod position_fault;
 mod read;
 mod reading;
 mod registry;
+mod row;
 mod sentence;
 mod size;
 mod telegram;

@@ -1,81 +1,24 @@
 //! Where the datasets of a file don't fit together.
 
-use crate::element::{Element, Form};
+ghost use Rattle.std.specs.Prelude.{◌≡◌, ◌++◌, [], not, false, map, flat_map, IfOk, OnOk};
+ghost use Rattle.toml.specs.View.{table_view};
+ghost use Rattle.trdp_dataset.specs.declared.fault.ConfigFault.TheVariants.{NoCount};
+ghost use Rattle.trdp_dataset.specs.Findings.{faults_of, listed_unless};
+ghost use Rattle.trdp_dataset.specs.Misfits.{row_seen, rows_seen, rows_in, row_dataset};
+ghost use Rattle.trdp_dataset.specs.Misfits.{added, firsts, twice_at, twices, known_in};
+ghost use Rattle.trdp_dataset.specs.Misfits.{missing_of, is_uncounted, may_count, uncounted};
+ghost use Rattle.trdp_dataset.specs.Misfits.{unfit_of, sound_dataset};
+ghost use Rattle.trdp_dataset.specs.Misfits.{sound_in, deep_of, big_of, misfits};
+
+use crate::check::lacks_count;
+use crate::datasets::Datasets;
+use crate::element::Element;
 use crate::fault::ConfigFault;
 use crate::finding::{Cause, Finding};
-use crate::key::Key;
-use crate::place::{DatasetName, Place};
-use crate::position::members_at;
-use crate::read::{element_in, identifier_of};
+use crate::nested::Nested;
+use crate::row::{Row, known_among, read_rows};
 use std::alloc::{AllocError, Global};
-use std::collections::BTreeMap;
-use toml::{Table, Value};
-
-/// How deep datasets may nest, the outermost included (profile).
-pub(crate) const DEPTH_MAX: u8 = 5;
-
-/// How many bytes the zero value of a dataset may have (profile).
-pub(crate) const ZERO_SIZE_MAX: u64 = 65_388;
-
-/// A dataset of a file.
-#[derive(Drop)]
-struct FileDataset {
-    /// Its name.
-    name: DatasetName,
-    /// Its identifier; None where it has none.
-    id: Option<u32>,
-    /// Its elements in order; None where the type isn't known.
-    elements: Vec<Option<Element>>,
-}
-
-impl FileDataset {
-    /// A fault of the dataset.
-    fn finding<'a>(&self, fault: ConfigFault, cause: Cause<'a>) -> Finding<'a> {
-        Finding {
-            fault,
-            place: Place::Dataset(self.name),
-            cause,
-        }
-    }
-
-    /// A fault of one of its elements.
-    fn element_finding<'a>(
-        &self,
-        index: usize,
-        fault: ConfigFault,
-        cause: Cause<'a>,
-    ) -> Finding<'a> {
-        Finding {
-            fault,
-            place: Place::Element(self.name, index),
-            cause,
-        }
-    }
-}
-
-/// The datasets of a file, which may have faults.
-#[derive(Drop)]
-struct FileDatasets {
-    /// The datasets in order.
-    rows: Vec<FileDataset>,
-    /// The index of the first one of each identifier.
-    index_of: BTreeMap<u32, usize>,
-}
-
-impl FileDatasets {
-    /// The index of the first dataset of that identifier; None where there is none.
-    fn index(&self, id: u32) -> Option<usize> {
-        self.index_of.get(&id).copied()
-    }
-
-    /// Whether the dataset at that index has an identifier that an earlier one has.
-    fn is_twice(&self, index: usize, dataset: &FileDataset) -> bool {
-        match dataset.id {
-            Some(id) => self.index(id) != Some(index),
-            None => false,
-        }
-    }
-}
+use toml::Table;
 
 /// Adds the faults of the datasets of a file that belong to no key.
 ///
@@ -85,112 +28,155 @@ pub(crate) fn push_misfits<'a>(
     alloc: Global,
     found: &mut Vec<Finding<'a>>,
     top: &'a Table,
-) -> Result<(), AllocError> {
-    let datasets = read_datasets(alloc, top)?;
-    push_twice(found, &datasets)?;
-    for dataset in &datasets.rows {
-        push_unknown_datasets(found, &datasets, dataset)?;
-        push_uncounted(found, dataset)?;
-    }
-    let within = within_depth(alloc, &datasets)?;
-    push_too_deep(found, &datasets, &within)?;
-    push_too_big(alloc, found, &datasets, &within)
+) -> Result<(), AllocError>
+    ensures faults { OnOk result (faults_of found.new.items
+        ≡ faults_of found.old.items ++ misfits (rows_in (table_view top.now))) }
+{
+    let rows = read_rows(alloc, top)?;
+    push_misfits_of(alloc, found, &rows)?;
+    Ok(())
 }
 
-/// The datasets of a file.
+/// Adds the faults of datasets that belong to no key.
 ///
 /// # Errors
 /// [`AllocError`] where there is no memory.
-fn read_datasets(alloc: Global, top: &Table) -> Result<FileDatasets, AllocError> {
-    let mut datasets = FileDatasets {
-        rows: Vec::new(alloc),
-        index_of: BTreeMap::new(alloc),
-    };
-    for (index, member) in members_at(top, Key::Dataset).iter().enumerate() {
-        if let Some(table) = member.as_table() {
-            push_dataset(alloc, &mut datasets, table, index)?;
-        }
-    }
-    Ok(datasets)
-}
-
-/// Adds the dataset that a table is, at an index among the datasets of the file.
-///
-/// # Errors
-/// [`AllocError`] where there is no memory.
-fn push_dataset(
+fn push_misfits_of(
     alloc: Global,
-    datasets: &mut FileDatasets,
-    table: &Table,
-    index: usize,
-) -> Result<(), AllocError> {
-    let id = identifier_of(table);
-    if let Some(id) = id {
-        if datasets.index(id).is_none() {
-            datasets.index_of.insert(id, datasets.rows.len())?;
-        }
-    }
-    datasets.rows.push(FileDataset {
-        name: DatasetName::of(table, index),
-        id,
-        elements: read_elements(alloc, table)?,
-    })?;
+    found: &mut Vec<Finding<'_>>,
+    rows: &[Row],
+) -> Result<(), AllocError>
+    ensures faults { OnOk result (faults_of found.new.items
+        ≡ faults_of found.old.items ++ misfits (rows_seen rows.now)) }
+{
+    let known = push_twice(alloc, found, rows)?;
+    push_unfit(found, &known, rows)?;
+    let datasets = sound_datasets(alloc, &known, rows)?;
+    let sound = Nested::new(alloc, datasets)?;
+    push_too_deep(alloc, found, &known, &sound, rows)?;
+    push_too_big(alloc, found, &known, &sound, rows)?;
     Ok(())
 }
 
-/// The elements of a dataset; None where the type isn't known.
+/// Adds each dataset whose identifier an earlier one has. The first of each identifier, with their
+/// known elements.
 ///
 /// # Errors
 /// [`AllocError`] where there is no memory.
-fn read_elements(alloc: Global, dataset: &Table) -> Result<Vec<Option<Element>>, AllocError> {
-    let mut elements = Vec::new(alloc);
-    for member in members_at(dataset, Key::Elements) {
-        elements.push(read_element(member))?;
+#[tactic(auto, unfolding(crate::specs::Misfits::known_in))]
+fn push_twice(
+    alloc: Global,
+    found: &mut Vec<Finding<'_>>,
+    rows: &[Row],
+) -> Result<Datasets, AllocError>
+    ensures known { IfOk result (λ known. known ≡ known_in (rows_seen rows.now)) }
+    ensures faults { OnOk result (faults_of found.new.items
+        ≡ faults_of found.old.items ++ twices [] (map row_dataset (rows_seen rows.now))) }
+{
+    let mut known = Datasets::new(alloc);
+    for row in rows {
+        push_if_twice(alloc, found, &mut known, row)?;
     }
-    Ok(elements)
+    Ok(known)
 }
 
-/// The element that a member of an array is; None where its type isn't known.
-fn read_element(member: &Value) -> Option<Element> {
-    element_in(member.as_table()?)
-}
-
-/// Adds each dataset whose identifier an earlier one has.
+/// Adds a dataset to those that are known, or its fault where its identifier is there.
 ///
 /// # Errors
 /// [`AllocError`] where there is no memory.
-fn push_twice(found: &mut Vec<Finding<'_>>, datasets: &FileDatasets) -> Result<(), AllocError> {
-    for (index, dataset) in datasets.rows.iter().enumerate() {
-        if datasets.is_twice(index, dataset) {
-            found.push(dataset.finding(ConfigFault::TwiceId, Cause::TwiceId))?;
-        }
+fn push_if_twice(
+    alloc: Global,
+    found: &mut Vec<Finding<'_>>,
+    known: &mut Datasets,
+    row: &Row,
+) -> Result<(), AllocError>
+    ensures known { OnOk result (known.new ≡ added known.old (row_dataset (row_seen row.now))) }
+    ensures faults { OnOk result (faults_of found.new.items
+        ≡ faults_of found.old.items ++ twice_at known.old (row_dataset (row_seen row.now))) }
+{
+    let Some(id) = row.id else {
+        return Ok(());
+    };
+    if !known.push(id, known_among(alloc, &row.elements)?)? {
+        found.push(row.finding(ConfigFault::TwiceId, Cause::TwiceId))?;
     }
     Ok(())
+}
+
+/// Adds the faults of the elements of each dataset.
+///
+/// # Errors
+/// [`AllocError`] where there is no memory.
+fn push_unfit(
+    found: &mut Vec<Finding<'_>>,
+    known: &Datasets,
+    rows: &[Row],
+) -> Result<(), AllocError>
+    ensures faults { OnOk result (faults_of found.new.items
+        ≡ faults_of found.old.items ++ flat_map (unfit_of known.now) (rows_seen rows.now)) }
+{
+    for row in rows {
+        push_unfit_of(found, known, row)?;
+    }
+    Ok(())
+}
+
+/// Adds the faults of the elements of a dataset.
+///
+/// # Errors
+/// [`AllocError`] where there is no memory.
+#[tactic(auto, unfolding(crate::specs::Misfits::unfit_of))]
+fn push_unfit_of(
+    found: &mut Vec<Finding<'_>>,
+    known: &Datasets,
+    row: &Row,
+) -> Result<(), AllocError>
+    ensures faults { OnOk result (faults_of found.new.items
+        ≡ faults_of found.old.items ++ unfit_of known.now (row_seen row.now)) }
+{
+    push_unknown(found, known, row)?;
+    push_uncounted(found, row)
 }
 
 /// Adds each element of a dataset that is of a dataset which isn't there.
 ///
 /// # Errors
 /// [`AllocError`] where there is no memory.
-fn push_unknown_datasets(
-    found: &mut Vec<Finding<'_>>,
-    datasets: &FileDatasets,
-    dataset: &FileDataset,
-) -> Result<(), AllocError> {
-    for (index, element) in dataset.elements.iter().enumerate() {
-        if let Some(id) = nested_in(*element) {
-            if datasets.index(id).is_none() {
-                let fault = ConfigFault::NoDataset(id);
-                found.push(dataset.element_finding(index, fault, Cause::NoDataset(id)))?;
-            }
-        }
+fn push_unknown(found: &mut Vec<Finding<'_>>, known: &Datasets, row: &Row) -> Result<(), AllocError>
+    ensures faults { OnOk result (faults_of found.new.items ≡ faults_of found.old.items
+        ++ flat_map (missing_of known.now) (row_seen row.now).elements) }
+{
+    let elements = row.elements.as_slice();
+    for (index, element) in elements.iter().enumerate() {
+        push_if_unknown(found, known, row, index, element)?;
     }
     Ok(())
 }
 
-/// The dataset that an element is of; None of a basic type and of one that isn't known.
-fn nested_in(element: Option<Element>) -> Option<u32> {
-    element?.nested()
+/// Adds the element of a dataset at an index, if it is of a dataset which isn't there.
+///
+/// # Errors
+/// [`AllocError`] where there is no memory.
+fn push_if_unknown(
+    found: &mut Vec<Finding<'_>>,
+    known: &Datasets,
+    row: &Row,
+    index: usize,
+    element: &Option<Element>,
+) -> Result<(), AllocError>
+    ensures faults { OnOk result (faults_of found.new.items
+        ≡ faults_of found.old.items ++ missing_of known.now element.now) }
+{
+    let Some(element) = element else {
+        return Ok(());
+    };
+    if let Some(id) = element.nested() {
+        if !known.has(id) {
+            let fault = ConfigFault::NoDataset(id);
+            found.push(row.element_finding(index, fault, Cause::NoDataset(id)))?;
+        }
+    }
+    Ok(())
 }
 
 /// Adds each element of a dataset that is an array of size 0 and has no count before it. One whose
@@ -198,15 +184,86 @@ fn nested_in(element: Option<Element>) -> Option<u32> {
 ///
 /// # Errors
 /// [`AllocError`] where there is no memory.
-fn push_uncounted(found: &mut Vec<Finding<'_>>, dataset: &FileDataset) -> Result<(), AllocError> {
+fn push_uncounted(found: &mut Vec<Finding<'_>>, row: &Row) -> Result<(), AllocError>
+    ensures faults { OnOk result (faults_of found.new.items
+        ≡ faults_of found.old.items ++ uncounted false (row_seen row.now).elements) }
+{
+    let elements = row.elements.as_slice();
     let mut is_counted = false;
-    for (index, element) in dataset.elements.iter().enumerate() {
-        let size = element.map_or(1, |it| it.size);
-        if size == 0 && !is_counted {
-            found.push(dataset.element_finding(index, ConfigFault::NoCount, Cause::NoCount))?;
-        }
-        is_counted = element.is_none_or(|it| it.is_count());
+    for (index, element) in elements.iter().enumerate() {
+        push_if_uncounted(found, row, index, is_counted, element)?;
+        is_counted = may_count(element);
     }
+    Ok(())
+}
+
+/// Adds the element of a dataset at an index, if it is known to be an array of size 0 without a
+/// count before it.
+///
+/// # Errors
+/// [`AllocError`] where there is no memory.
+fn push_if_uncounted(
+    found: &mut Vec<Finding<'_>>,
+    row: &Row,
+    index: usize,
+    is_counted: bool,
+    element: &Option<Element>,
+) -> Result<(), AllocError>
+    ensures faults { OnOk result (faults_of found.new.items ≡ faults_of found.old.items
+        ++ listed_unless (not (is_uncounted is_counted element.now)) NoCount) }
+{
+    let Some(element) = element else {
+        return Ok(());
+    };
+    if lacks_count(is_counted, *element) {
+        found.push(row.element_finding(index, ConfigFault::NoCount, Cause::NoCount))?;
+    }
+    Ok(())
+}
+
+/// Whether an element counts the items of an array after it, or isn't known and so may be meant to.
+fn may_count(element: &Option<Element>) -> bool
+    ensures value { result ≡ may_count element.now }
+{
+    match element {
+        Some(element) => element.is_count(),
+        None => true,
+    }
+}
+
+/// The first dataset of each identifier, with those of its elements that are known, and of datasets
+/// which are there. How deep they nest, and how long their zero values are, can be said of these.
+///
+/// # Errors
+/// [`AllocError`] where there is no memory.
+#[tactic(auto, unfolding(crate::specs::Misfits::sound_in))]
+fn sound_datasets(alloc: Global, known: &Datasets, rows: &[Row]) -> Result<Datasets, AllocError>
+    ensures value { IfOk result (λ sound. sound ≡ sound_in known.now (rows_seen rows.now)) }
+{
+    let mut sound = Datasets::new(alloc);
+    for row in rows {
+        push_sound(alloc, &mut sound, known, row)?;
+    }
+    Ok(sound)
+}
+
+/// Adds a dataset, if it has an identifier that isn't there.
+///
+/// # Errors
+/// [`AllocError`] where there is no memory.
+fn push_sound(
+    alloc: Global,
+    sound: &mut Datasets,
+    known: &Datasets,
+    row: &Row,
+) -> Result<(), AllocError>
+    ensures value { OnOk result
+        (sound.new ≡ added sound.old (sound_dataset known.now (row_seen row.now))) }
+{
+    let Some(id) = row.id else {
+        return Ok(());
+    };
+    sound.push(id, row.sound(alloc, known)?)?;
     Ok(())
 }
 
@@ -215,69 +272,41 @@ fn push_uncounted(found: &mut Vec<Finding<'_>>, dataset: &FileDataset) -> Result
 /// # Errors
 /// [`AllocError`] where there is no memory.
 fn push_too_deep(
+    alloc: Global,
     found: &mut Vec<Finding<'_>>,
-    datasets: &FileDatasets,
-    within: &[bool],
-) -> Result<(), AllocError> {
-    for (dataset, is_within) in datasets.rows.iter().zip(within.iter()) {
-        if !*is_within {
-            found.push(dataset.finding(ConfigFault::TooDeep, Cause::TooDeep))?;
-        }
+    known: &Datasets,
+    sound: &Nested,
+    rows: &[Row],
+) -> Result<(), AllocError>
+    ensures faults { OnOk result (faults_of found.new.items ≡ faults_of found.old.items
+        ++ flat_map (deep_of known.now sound.now) (rows_seen rows.now)) }
+{
+    for row in rows {
+        push_if_deep(alloc, found, known, sound, row)?;
     }
     Ok(())
 }
 
-/// Whether each dataset nests no deeper than it may.
+/// Adds a dataset, if it nests too deep.
 ///
 /// # Errors
 /// [`AllocError`] where there is no memory.
-fn within_depth(alloc: Global, datasets: &FileDatasets) -> Result<Vec<bool>, AllocError> {
-    // Whether each dataset nests no deeper than the number of rounds.
-    let mut within = vec![in alloc; false; datasets.rows.len()]?;
-    for _round in 0..DEPTH_MAX {
-        within = deeper_by_one(alloc, datasets, &within)?;
-    }
-    Ok(within)
-}
-
-/// Whether each dataset nests at most one deeper than those do that are within a depth.
-///
-/// # Errors
-/// [`AllocError`] where there is no memory.
-fn deeper_by_one(
+#[tactic(auto, unfolding(crate::specs::Misfits::deep_of))]
+fn push_if_deep(
     alloc: Global,
-    datasets: &FileDatasets,
-    within: &[bool],
-) -> Result<Vec<bool>, AllocError> {
-    let mut deeper = Vec::new(alloc);
-    for dataset in &datasets.rows {
-        deeper.push(are_nested_within(datasets, within, &dataset.elements))?;
+    found: &mut Vec<Finding<'_>>,
+    known: &Datasets,
+    sound: &Nested,
+    row: &Row,
+) -> Result<(), AllocError>
+    ensures faults { OnOk result (faults_of found.new.items
+        ≡ faults_of found.old.items ++ deep_of known.now sound.now (row_seen row.now)) }
+{
+    let elements = row.sound(alloc, known)?;
+    if !sound.is_shallow(&elements) {
+        found.push(row.finding(ConfigFault::TooDeep, Cause::TooDeep))?;
     }
-    Ok(deeper)
-}
-
-/// Whether all datasets that elements are of are within a depth. One that isn't there is.
-fn are_nested_within(
-    datasets: &FileDatasets,
-    within: &[bool],
-    elements: &[Option<Element>],
-) -> bool {
-    for element in elements {
-        if let Some(id) = nested_in(*element) {
-            if row_of(datasets, within, id) == Some(false) {
-                return false;
-            }
-        }
-    }
-    true
-}
-
-/// What a list, whose rows are those of the datasets, has for the first one of that identifier.
-fn row_of<T: Copy>(datasets: &FileDatasets, rows: &[T], id: u32) -> Option<T> {
-    match datasets.index(id) {
-        Some(index) => rows.get(index).copied(),
-        None => None,
-    }
+    Ok(())
 }
 
 /// Adds each dataset whose zero value is too long, of those that nest no deeper than they may.
@@ -287,60 +316,38 @@ fn row_of<T: Copy>(datasets: &FileDatasets, rows: &[T], id: u32) -> Option<T> {
 fn push_too_big(
     alloc: Global,
     found: &mut Vec<Finding<'_>>,
-    datasets: &FileDatasets,
-    within: &[bool],
-) -> Result<(), AllocError> {
-    let sizes = zero_sizes(alloc, datasets)?;
-    for (index, dataset) in datasets.rows.iter().enumerate() {
-        let size = sizes.get(index).copied().unwrap_or(0);
-        if size > ZERO_SIZE_MAX && within.get(index) == Some(&true) {
-            found.push(dataset.finding(ConfigFault::TooBig, Cause::TooBig(size)))?;
-        }
+    known: &Datasets,
+    sound: &Nested,
+    rows: &[Row],
+) -> Result<(), AllocError>
+    ensures faults { OnOk result (faults_of found.new.items ≡ faults_of found.old.items
+        ++ flat_map (big_of known.now sound.now) (rows_seen rows.now)) }
+{
+    for row in rows {
+        push_if_big(alloc, found, known, sound, row)?;
     }
     Ok(())
 }
 
-/// The bytes of the zero value of each dataset that nests no deeper than it may; at most 2^64 - 1.
+/// Adds a dataset, if its zero value is too long and it nests no deeper than it may.
 ///
 /// # Errors
 /// [`AllocError`] where there is no memory.
-fn zero_sizes(alloc: Global, datasets: &FileDatasets) -> Result<Vec<u64>, AllocError> {
-    // After as many rounds as datasets nest deep, the sizes are whole.
-    let mut sizes = vec![in alloc; 0u64; datasets.rows.len()]?;
-    for _round in 0..DEPTH_MAX {
-        sizes = sizes_over(alloc, datasets, &sizes)?;
-    }
-    Ok(sizes)
-}
-
-/// The bytes of the zero value of each dataset, where nested ones have these sizes.
-///
-/// # Errors
-/// [`AllocError`] where there is no memory.
-fn sizes_over(
+#[tactic(auto, unfolding(crate::specs::Misfits::big_of))]
+fn push_if_big(
     alloc: Global,
-    datasets: &FileDatasets,
-    sizes: &[u64],
-) -> Result<Vec<u64>, AllocError> {
-    let mut next = Vec::new(alloc);
-    for dataset in &datasets.rows {
-        next.push(size_of(datasets, sizes, &dataset.elements))?;
+    found: &mut Vec<Finding<'_>>,
+    known: &Datasets,
+    sound: &Nested,
+    row: &Row,
+) -> Result<(), AllocError>
+    ensures faults { OnOk result (faults_of found.new.items
+        ≡ faults_of found.old.items ++ big_of known.now sound.now (row_seen row.now)) }
+{
+    let elements = row.sound(alloc, known)?;
+    if sound.is_big(&elements) {
+        let size = sound.size(&elements);
+        found.push(row.finding(ConfigFault::TooBig, Cause::TooBig(size)))?;
     }
-    Ok(next)
-}
-
-/// The bytes of the zero value of elements, where nested datasets have these sizes; at most
-/// 2^64 - 1.
-fn size_of(datasets: &FileDatasets, sizes: &[u64], elements: &[Option<Element>]) -> u64 {
-    let mut size: u64 = 0;
-    for element in elements.iter().flatten() {
-        let one = match element.kind.form() {
-            Form::Unsigned(width) | Form::Signed(width) => width.len() as u64,
-            Form::Time48 => 6,
-            Form::Time64 => 8,
-            Form::Nested(id) => row_of(datasets, sizes, id).unwrap_or(0),
-        };
-        size = size.saturating_add(one.saturating_mul(u64::from(element.size)));
-    }
-    size
+    Ok(())
 }

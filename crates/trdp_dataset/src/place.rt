@@ -1,7 +1,7 @@
 //! The tables of a configuration file, as its author reads their names.
 
 use crate::key::Key;
-use crate::position::{members_at, value_at};
+use crate::position::{members_at, node_in};
 use crate::read::identifier_of;
 use crate::value::items;
 use std::fmt;
@@ -80,11 +80,6 @@ impl fmt::Display for Place {
             Place::Telegram(index) => write!(f, "telegram {index}"),
         }
     }
-}
-
-/// The table of the node, if there is one.
-pub(crate) fn node_in(top: &Table) -> Option<&Table> {
-    value_at(top, Key::Node)?.as_table()
 }
 
 /// The table of a dataset, if it is there.

@@ -3,7 +3,8 @@
 ghost use Rattle.std.specs.Prelude.{◌≡◌, ◌++◌, IfOk, OnOk, option_map, map, Some};
 ghost use Rattle.std.specs.List.{filter_map};
 ghost use Rattle.toml.specs.View.{view, table_view};
-ghost use Rattle.trdp_dataset.specs.Positions.{value_at, tables_at, position_at, positions_at};
+ghost use Rattle.trdp_dataset.specs.Positions.{value_at, tables_at, items_at, position_at};
+ghost use Rattle.trdp_dataset.specs.Positions.{positions_at};
 ghost use Rattle.trdp_dataset.specs.Positions.{positions_of_all, node_in, positions_of_node};
 ghost use Rattle.trdp_dataset.specs.Positions.{node_positions, slot_positions, element_positions};
 ghost use Rattle.trdp_dataset.specs.Positions.{dataset_positions, all_positions};
@@ -60,9 +61,10 @@ pub(crate) fn value_at(table: &Table, key: Key) -> Option<&Value>
 }
 
 /// The members of the array at a key of a table.
-#[tactic(auto, unfolding(crate::specs::Positions::tables_at))]
+#[tactic(auto, unfolding(crate::specs::Positions::tables_at, crate::specs::Positions::items_at))]
 pub(crate) fn members_at(table: &Table, key: Key) -> &[Value]
     ensures value { tables_seen result.now ≡ tables_at key (table_view table.now) }
+    ensures items { map view result.now ≡ items_at key (table_view table.now) }
 {
     match value_at(table, key) {
         Some(value) => items(value),

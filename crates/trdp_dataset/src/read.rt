@@ -130,7 +130,7 @@ pub(crate) fn element_in(table: &Table) -> Option<Element>
 }
 
 /// The element that a member of an array is.
-fn element_of(member: &Value) -> Option<Element>
+pub(crate) fn element_of(member: &Value) -> Option<Element>
     ensures value { result ≡ option_and_then element_in (as_table (view member.now)) }
 {
     match member.as_table() {

@@ -16,7 +16,7 @@ pub struct Registry {
     /// The datasets in the order of the file, 0 to 256, no two with one identifier.
     datasets: Datasets,
     /// The length of each dataset's zero value in bytes, 0 to 65,388, in the same order.
-    zero_sizes: Vec<u32>,
+    zero_sizes: Vec<u64>,
     /// Of each dataset in order, whether all its values have as many bytes as the zero value.
     fixed: Vec<bool>,
 }
@@ -64,7 +64,7 @@ impl Registry {
 
     /// The registry of datasets that fit together, with the sizes of their zero values in order,
     /// and whether all values of each have one length.
-    pub(crate) fn new(datasets: Datasets, zero_sizes: Vec<u32>, fixed: Vec<bool>) -> Self
+    pub(crate) fn new(datasets: Datasets, zero_sizes: Vec<u64>, fixed: Vec<bool>) -> Self
         requires sound { IsRegistry datasets }
         requires sizes { zero_sizes.items ≡ zero_sizes_of datasets }
         requires fixed { fixed.items ≡ fixed_row datasets 5 }

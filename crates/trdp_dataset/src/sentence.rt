@@ -1,8 +1,9 @@
 //! The line that reports a fault of a file.
 
+use crate::check::VALUE_MAX;
+use crate::depth::DEPTH_MAX;
 use crate::finding::{Cause, Finding};
 use crate::key::Key;
-use crate::misfit::{DEPTH_MAX, ZERO_SIZE_MAX};
 use crate::place::Place;
 use crate::wish::{push_member_wish, push_wish};
 use std::alloc::{AllocError, Global};
@@ -78,7 +79,7 @@ fn push_cause(alloc: Global, text: &mut String, cause: Cause<'_>) -> Result<(), 
         ),
         Cause::TooBig(size) => write!(
             text,
-            "its zero value takes {size} bytes: {ZERO_SIZE_MAX} are the most"
+            "its zero value takes {size} bytes: {VALUE_MAX} are the most"
         ),
     }
 }

@@ -3,33 +3,30 @@
 ghost use Rattle.std.specs.Prelude.{◌≡◌, ◌+◌, ◌*◌, ℕ, suc, min, length, replicate, IfOk};
 ghost use Rattle.trdp_dataset.specs.Elements.{width_len, form_of};
 ghost use Rattle.trdp_dataset.specs.ZeroSizes.{form_size, entries_size, dataset_size};
+ghost use Rattle.trdp_dataset.specs.Limits.{size_cap};
 ghost use Rattle.trdp_dataset.specs.Stored.{size_row};
 
 use crate::datasets::Datasets;
+use crate::depth::NESTED_MAX;
 use crate::element::{Element, Form};
 use std::alloc::{AllocError, Global};
 
-/// One more byte than a zero value may have: every size above is replaced by this one, so that no
-/// sum overflows.
-const TOO_BIG: u64 = 65389;
-
-/// The sum with `count` times a size, at most [`TOO_BIG`].
-fn added(total: u32, count: u16, size: u32) -> u32
-    ensures { result ≡ min (total + count * size) 65389 }
+/// The sum with `count` times a size, at most 2^64 - 1.
+fn added(total: u64, count: u16, size: u64) -> u64
+    ensures { result ≡ min (total + count * size) size_cap }
 {
-    let sum = u64::from(total) + u64::from(count) * u64::from(size);
-    sum.min(TOO_BIG) as u32
+    total.saturating_add(u64::from(count).saturating_mul(size))
 }
 
 /// The zero value of a type; `sizes` has those of the datasets in order.
 #[tactic(auto, unfolding(crate::specs::ZeroSizes::form_size))]
-fn form_size(datasets: &Datasets, sizes: &[u32], form: Form) -> u32
+fn form_size(datasets: &Datasets, sizes: &[u64], form: Form) -> u64
     requires { length sizes.now ≡ length datasets.now }
     ensures { (depth : ℕ) → sizes.now ≡ size_row datasets.now depth
-        → result ≡ min (form_size (dataset_size datasets.now depth) form) 65389 }
+        → result ≡ min (form_size (dataset_size datasets.now depth) form) size_cap }
 {
     match form {
-        Form::Unsigned(width) | Form::Signed(width) => width.len() as u32,
+        Form::Unsigned(width) | Form::Signed(width) => width.len() as u64,
         Form::Time48 => 6,
         Form::Time64 => 8,
         Form::Nested(id) => match datasets.index_of(id) {
@@ -40,11 +37,11 @@ fn form_size(datasets: &Datasets, sizes: &[u32], form: Form) -> u32
 }
 
 /// The zero values of elements, one after the other.
-fn entries_size(datasets: &Datasets, sizes: &[u32], elements: &[Element]) -> u32
+pub(crate) fn entries_size(datasets: &Datasets, sizes: &[u64], elements: &[Element]) -> u64
     requires { length sizes.now ≡ length datasets.now }
     ensures { (depth : ℕ) → sizes.now ≡ size_row datasets.now depth
         → result
-        ≡ min (entries_size (form_size (dataset_size datasets.now depth)) elements.now) 65389 }
+        ≡ min (entries_size (form_size (dataset_size datasets.now depth)) elements.now) size_cap }
 {
     let mut total = 0;
     for element in elements {
@@ -56,10 +53,10 @@ fn entries_size(datasets: &Datasets, sizes: &[u32], elements: &[Element]) -> u32
 
 /// The zero value of a dataset, down to a depth one larger than that of `sizes`.
 #[tactic(auto, unfolding(crate::specs::ZeroSizes::dataset_size))]
-fn dataset_size(datasets: &Datasets, sizes: &[u32], id: u32) -> u32
+fn dataset_size(datasets: &Datasets, sizes: &[u64], id: u32) -> u64
     requires { length sizes.now ≡ length datasets.now }
     ensures { (depth : ℕ) → sizes.now ≡ size_row datasets.now depth
-        → result ≡ min (dataset_size datasets.now (suc depth) id) 65389 }
+        → result ≡ min (dataset_size datasets.now (suc depth) id) size_cap }
 {
     match datasets.elements(id) {
         Some(elements) => entries_size(datasets, sizes, elements),
@@ -68,7 +65,7 @@ fn dataset_size(datasets: &Datasets, sizes: &[u32], id: u32) -> u32
 }
 
 /// The zero values of the datasets, down to a depth one larger than that of `sizes`.
-fn one_deeper(alloc: Global, datasets: &Datasets, sizes: &[u32]) -> Result<Vec<u32>, AllocError>
+fn one_deeper(alloc: Global, datasets: &Datasets, sizes: &[u64]) -> Result<Vec<u64>, AllocError>
     requires { length sizes.now ≡ length datasets.now }
     ensures len { IfOk result (λ next. length next.items ≡ length datasets.now) }
     ensures row { IfOk result
@@ -83,19 +80,29 @@ fn one_deeper(alloc: Global, datasets: &Datasets, sizes: &[u32]) -> Result<Vec<u
 }
 
 /// At depth 0 nothing counts.
-fn no_sizes(alloc: Global, datasets: &Datasets) -> Result<Vec<u32>, AllocError>
+fn no_sizes(alloc: Global, datasets: &Datasets) -> Result<Vec<u64>, AllocError>
     ensures { IfOk result (λ sizes. sizes.items ≡ replicate (length datasets.now) 0) }
 {
     vec![in alloc; 0; datasets.len()]
 }
 
-/// The zero values of the datasets, in bytes and in order; of those above it, [`TOO_BIG`].
-pub(crate) fn zero_sizes(alloc: Global, datasets: &Datasets) -> Result<Vec<u32>, AllocError>
-    ensures { IfOk result (λ sizes. sizes.items ≡ size_row datasets.now 5) }
+/// The zero values of the datasets in order, where they are nested in others: down to a depth one
+/// smaller than the greatest.
+pub(crate) fn nested_sizes(alloc: Global, datasets: &Datasets) -> Result<Vec<u64>, AllocError>
+    ensures len { IfOk result (λ sizes. length sizes.items ≡ length datasets.now) }
+    ensures row { IfOk result (λ sizes. sizes.items ≡ size_row datasets.now 4) }
 {
     let mut sizes = no_sizes(alloc, datasets)?;
-    for _ in 0..5u8 {
+    for _ in 0..NESTED_MAX {
         sizes = one_deeper(alloc, datasets, &sizes)?;
     }
     Ok(sizes)
+}
+
+/// How many bytes the zero values of the datasets have, in order; at most 2^64 - 1 each.
+pub(crate) fn zero_sizes(alloc: Global, datasets: &Datasets) -> Result<Vec<u64>, AllocError>
+    ensures { IfOk result (λ sizes. sizes.items ≡ size_row datasets.now 5) }
+{
+    let nested = nested_sizes(alloc, datasets)?;
+    one_deeper(alloc, datasets, &nested)
 }

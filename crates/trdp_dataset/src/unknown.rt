@@ -2,8 +2,8 @@
 
 use crate::client_key::client_keys;
 use crate::key::Key;
-use crate::place::{DatasetName, Place, TELEGRAM_KEY, node_in, telegrams_in};
-use crate::position::{DATASET_KEYS, ELEMENT_KEYS, NODE_KEYS, SLOT_KEYS, members_at};
+use crate::place::{DatasetName, Place, TELEGRAM_KEY, telegrams_in};
+use crate::position::{DATASET_KEYS, ELEMENT_KEYS, NODE_KEYS, SLOT_KEYS, members_at, node_in};
 use std::alloc::AllocError;
 use std::fmt::Write;
 use toml::Table;

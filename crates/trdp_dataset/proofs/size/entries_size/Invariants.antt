@@ -1,3 +1,4 @@
+use Rattle.trdp_dataset.specs.Limits.{size_cap}
 use Rattle.std.proofs.Common.{◌≡◌, ℕ, ◌+◌, ◌≤◌, drop}
 use Rattle.std.specs.Prelude.{min}
 use Rattle.trdp_dataset.specs.ZeroSizes.{form_size, entries_size, dataset_size}
@@ -6,9 +7,9 @@ use Rattle.trdp_dataset.proofs.size.entries_size.Given as goal
 
 abbrev pub invariant-loop-element : goal.invariant-loop-element
 invariant-loop-element l = record {
-  bound : l.total ≤ 65389;
+  bound : l.total ≤ size_cap;
   sum : (depth : ℕ) → l.sizes ≡ size_row l.datasets depth
       → min (l.total + entries_size (form_size (dataset_size l.datasets depth))
-      (drop l.element-index l.elements)) 65389
-      ≡ min (entries_size (form_size (dataset_size l.datasets depth)) l.elements) 65389;
+      (drop l.element-index l.elements)) size_cap
+      ≡ min (entries_size (form_size (dataset_size l.datasets depth)) l.elements) size_cap;
 }

@@ -1,3 +1,4 @@
+use Rattle.trdp_dataset.specs.Limits.{size_cap}
 use Rattle.std.proofs.Common.{◌≡◌, ℕ, suc, take, map, length}
 use Rattle.std.specs.Prelude.{min}
 use Rattle.trdp_dataset.specs.ZeroSizes.{dataset_size}
@@ -8,5 +9,5 @@ abbrev pub invariant-loop-i : goal.invariant-loop-i
 invariant-loop-i l = record {
   len : length l.next.items ≡ l.i;
   row : (depth : ℕ) → l.sizes ≡ size_row l.datasets depth → l.next.items
-      ≡ map (λ d. min (dataset_size l.datasets (suc depth) d.id) 65389) (take l.i l.datasets);
+      ≡ map (λ d. min (dataset_size l.datasets (suc depth) d.id) size_cap) (take l.i l.datasets);
 }

@@ -1,7 +1,7 @@
 use Rattle.std.proofs.Common.{length, ap, ◌∙◌}
 use Rattle.std.proofs.lemmas.List.{length-replicate}
 use Rattle.trdp_dataset.proofs.SizeLemmas.{no_size_row}
-use Rattle.trdp_dataset.proofs.size.zero_sizes.Goals as goal
+use Rattle.trdp_dataset.proofs.size.nested_sizes.Goals as goal
 
 pub loop-init : goal.loop-init
 loop-init c = record {

@@ -1,6 +1,6 @@
 use Rattle.std.proofs.Common.{◌≡◌, length}
 use Rattle.trdp_dataset.specs.Stored.{size_row}
-use Rattle.trdp_dataset.proofs.size.zero_sizes.Given as goal
+use Rattle.trdp_dataset.proofs.size.nested_sizes.Given as goal
 
 abbrev pub invariant-loop : goal.invariant-loop
 invariant-loop l = record {

@@ -1,6 +1,6 @@
 use Rattle.std.proofs.Common.{◌≡◌, length}
 use Rattle.trdp_dataset.specs.Stored.{within_row}
-use Rattle.trdp_dataset.proofs.depth.too_deep.Given as goal
+use Rattle.trdp_dataset.proofs.depth.nestable.Given as goal
 
 abbrev pub invariant-loop : goal.invariant-loop
 invariant-loop l = record {

@@ -1,0 +1,13 @@
+use Rattle.std.proofs.Common.{◌≡◌, ◌++◌, drop}
+use Rattle.toml.specs.View.{table_view}
+use Rattle.trdp_dataset.specs.declared.key.Key.TheVariants.{Dataset}
+use Rattle.trdp_dataset.specs.Positions.{element_positions, tables_at}
+use Rattle.trdp_dataset.specs.Seen.{tables_seen}
+use Rattle.trdp_dataset.specs.Findings.{faults_of, all_faults}
+use Rattle.trdp_dataset.proofs.find.push_elements.Given as goal
+
+abbrev pub invariant-loop-index : goal.invariant-loop-index
+invariant-loop-index l = faults_of l.found.items
+    ++ all_faults (element_positions (tables_seen (drop l.index l.members)))
+    ≡ faults_of l.fn.found.items
+    ++ all_faults (element_positions (tables_at Dataset (table_view l.top)))
