@@ -31,9 +31,9 @@ use Rattle.trdp_dataset.specs.Faults.{no_count_in, too_deep_in, too_big_in, firs
 use Rattle.trdp_dataset.specs.Faults.{fit_fault, dataset_fault, fault_in}
 use Rattle.trdp_dataset.specs.Configs.{datasets_in, config_fault_of}
 use Rattle.trdp_dataset.specs.Findings.{least_of, listed_unless, all_faults}
-use Rattle.trdp_dataset.specs.Misfits.{RowModel, rows_in, known_among, row_dataset, added, firsts}
-use Rattle.trdp_dataset.specs.Misfits.{twice_at, twices, missing, missing_of, lacks_count}
-use Rattle.trdp_dataset.specs.Misfits.{uncounted, unfit_of, sound_among}
+use Rattle.trdp_dataset.specs.Misfits.{RowModel, file_rows, known_among, row_dataset, added, firsts}
+use Rattle.trdp_dataset.specs.Misfits.{twice_at, twices, unknown_nested, missing_of, lacks_count}
+use Rattle.trdp_dataset.specs.Misfits.{counts_missing, unfit_of, sound_among}
 use Rattle.trdp_dataset.specs.Misfits.{sound_elements, sound_dataset, sound_in, is_shallow}
 use Rattle.trdp_dataset.specs.Misfits.{is_short, is_big, deep_of, big_of, known_in, fit_faults, misfits}
 use Rattle.trdp_dataset.proofs.LoopLemmas.{first_of_two, second_of_two}
@@ -57,7 +57,7 @@ twices_from ds [] = tt
 twices_from ds (o ∷ os) = from_append 6 (twice_at ds o) (twices (added ds o) os)
     (twice_from ds o) (twices_from (added ds o) os)
 
-missing_from : (known : List DatasetModel) (o : Option ℕ) → AreFrom 7 (missing known o)
+missing_from : (known : List DatasetModel) (o : Option ℕ) → AreFrom 7 (unknown_nested known o)
 missing_from known None = tt
 missing_from known (Some id) = from_unless 7 (is_known known id) (NoDataset id) (lit≤ tt)
 
@@ -65,19 +65,19 @@ missing_of_from : (known : List DatasetModel) (e : Option Element) → AreFrom 7
 missing_of_from known None = tt
 missing_of_from known (Some e) = missing_from known (nested_id (form_of e.kind))
 
-uncounted_from : (c : Bool) (es : List (Option Element)) → AreFrom 8 (uncounted c es)
+uncounted_from : (c : Bool) (es : List (Option Element)) → AreFrom 8 (counts_missing c es)
 uncounted_from c [] = tt
 uncounted_from c (None ∷ es) = uncounted_from true es
 uncounted_from c (Some e ∷ es) = from_append 8 (listed_unless (not (lacks_count c e)) NoCount)
-    (uncounted (is_count e) es) (from_unless 8 (not (lacks_count c e)) NoCount (lit≤ tt))
+    (counts_missing (is_count e) es) (from_unless 8 (not (lacks_count c e)) NoCount (lit≤ tt))
     (uncounted_from (is_count e) es)
 
 unfit_from : (known : List DatasetModel) (row : RowModel) → AreFrom 7 (unfit_of known row)
 unfolding unfit_of
 unfit_from known row = from_append 7 (flat_map (missing_of known) row.elements)
-    (uncounted false row.elements)
+    (counts_missing false row.elements)
     (from_each 7 (missing_of known) (missing_of_from known) row.elements)
-    (from_lower 7 8 (uncounted false row.elements) (lit≤ tt) (uncounted_from false row.elements))
+    (from_lower 7 8 (counts_missing false row.elements) (lit≤ tt) (uncounted_from false row.elements))
 
 deep_from : (known sound : List DatasetModel) (row : RowModel) → AreFrom 9 (deep_of known sound row)
 unfolding deep_of
@@ -200,7 +200,7 @@ module _ (known : List DatasetModel) where
       by : (o : Option ℕ) → find gone (cons_option o (nested_ids es)) ≡ None
           → (find gone (nested_ids es) ≡ None
           → flat_map (missing_of known) (map (λ y. Some y) es) ≡ [])
-          → missing known o ++ flat_map (missing_of known) (map (λ y. Some y) es) ≡ []
+          → unknown_nested known o ++ flat_map (missing_of known) (map (λ y. Some y) es) ≡ []
       by None f later = later f
       by (Some id) f later = at id (is_known known id) f later
 
@@ -231,7 +231,7 @@ module _ (known : List DatasetModel) where
           → (find gone (nested_ids es) ≡ Some id
           → least_of (flat_map (missing_of known) (map (λ y. Some y) es) ++ tail)
           ≡ Some (NoDataset id))
-          → least_of ((missing known o ++ flat_map (missing_of known) (map (λ y. Some y) es))
+          → least_of ((unknown_nested known o ++ flat_map (missing_of known) (map (λ y. Some y) es))
           ++ tail) ≡ Some (NoDataset id)
       by None f later = later f
       by (Some n) f later = at n (is_known known n) f later
@@ -243,28 +243,28 @@ lacking true false = refl
 lacking false c = refl
 
 uncounted_least : (c : Bool) (es : List Element) (tail : List ConfigFault) → AreFrom 8 tail
-    → least_of (uncounted c (map (λ e. Some e) es) ++ tail)
+    → least_of (counts_missing c (map (λ e. Some e) es) ++ tail)
     ≡ (if all_counted c es then least_of tail else Some NoCount)
 uncounted_least c [] tail h = refl
 uncounted_least c (e ∷ es) tail h =
     ap (λ b. least_of ((listed_unless b NoCount
-    ++ uncounted (is_count e) (map (λ x. Some x) es)) ++ tail)) (lacking (e.size == 0) c)
+    ++ counts_missing (is_count e) (map (λ x. Some x) es)) ++ tail)) (lacking (e.size == 0) c)
     ∙ by (not (e.size == 0) || c) (uncounted_least (is_count e) es tail h)
   where
-    rest : AreFrom 8 (uncounted (is_count e) (map (λ x. Some x) es) ++ tail)
-    rest = from_append 8 (uncounted (is_count e) (map (λ x. Some x) es)) tail
+    rest : AreFrom 8 (counts_missing (is_count e) (map (λ x. Some x) es) ++ tail)
+    rest = from_append 8 (counts_missing (is_count e) (map (λ x. Some x) es)) tail
         (uncounted_from (is_count e) (map (λ x. Some x) es)) h
 
-    by : (b : Bool) → least_of (uncounted (is_count e) (map (λ x. Some x) es) ++ tail)
+    by : (b : Bool) → least_of (counts_missing (is_count e) (map (λ x. Some x) es) ++ tail)
         ≡ (if all_counted (is_count e) es then least_of tail else Some NoCount)
         → least_of ((listed_unless b NoCount
-        ++ uncounted (is_count e) (map (λ x. Some x) es)) ++ tail)
+        ++ counts_missing (is_count e) (map (λ x. Some x) es)) ++ tail)
         ≡ (if (b && all_counted (is_count e) es) then least_of tail else Some NoCount)
     by true later = later
-    by false later = least_head NoCount (uncounted (is_count e) (map (λ x. Some x) es) ++ tail) rest
+    by false later = least_head NoCount (counts_missing (is_count e) (map (λ x. Some x) es) ++ tail) rest
 
 abbrev counts : DatasetModel → List ConfigFault
-counts d = uncounted false (map (λ e. Some e) d.elements)
+counts d = counts_missing false (map (λ e. Some e) d.elements)
 
 counts_by : (b all : Bool) (tail : List ConfigFault) (o : Option ConfigFault)
     → o ≡ (if all then least_of tail else Some NoCount)
@@ -608,23 +608,23 @@ module _ (top : Members) where
   ds = datasets_in top
 
   early_same : (f : ConfigFault) → Some f ≡ before_datasets least
-      → least_of_two least (least_of (misfits (rows_in top)))
+      → least_of_two least (least_of (misfits (file_rows top)))
       ≡ least_of_two least (dataset_fault ds)
   early_same f e =
       let b = before_first least f e in
       let single = subst (λ (o : Option ConfigFault). IfSome o IsOfPosition) (sym b.0)
       (least_single (all_positions top)) in
       let first = early f single b.1 in
-      let listed : AreFrom (rank f) (misfits (rows_in top)) =
-      from_lower (rank f) 6 (misfits (rows_in top)) (omega (arith, first))
-      (misfits_from (rows_in top)) in
-      ap (λ o. least_of_two o (least_of (misfits (rows_in top)))) (sym b.0)
-      ∙ (least_stays f (least_of (misfits (rows_in top)))
-      (least_rank (rank f) (misfits (rows_in top)) listed)
+      let listed : AreFrom (rank f) (misfits (file_rows top)) =
+      from_lower (rank f) 6 (misfits (file_rows top)) (omega (arith, first))
+      (misfits_from (file_rows top)) in
+      ap (λ o. least_of_two o (least_of (misfits (file_rows top)))) (sym b.0)
+      ∙ (least_stays f (least_of (misfits (file_rows top)))
+      (least_rank (rank f) (misfits (file_rows top)) listed)
       ∙ (sym (early_first f (dataset_fault ds) first (dataset_own ds))
       ∙ ap (λ o. least_of_two o (dataset_fault ds)) b.0))
 
-  late_same : IsLate least → least_of (misfits (rows_in top)) ≡ dataset_fault ds
+  late_same : IsLate least → least_of (misfits (file_rows top)) ≡ dataset_fault ds
   unfolding all_positions
   late_same late =
       let last = all_last (all_positions top) (late_last least late) in
@@ -632,14 +632,14 @@ module _ (top : Members) where
       ap (λ rows. least_of (misfits rows)) (rows_full top own) ∙ full_least ds
 
   same_by : (o : Option ConfigFault) → o ≡ before_datasets least
-      → least_of_two least (least_of (misfits (rows_in top)))
+      → least_of_two least (least_of (misfits (file_rows top)))
       ≡ least_of_two least (dataset_fault ds)
   same_by None e = ap (least_of_two least) (late_same e)
   same_by (Some f) e = early_same f e
 
-  pub first_listed : least_of (all_faults (all_positions top) ++ misfits (rows_in top))
+  pub first_listed : least_of (all_faults (all_positions top) ++ misfits (file_rows top))
       ≡ config_fault_of top
   unfolding config_fault_of fault_in
-  first_listed = least_append (all_faults (all_positions top)) (misfits (rows_in top))
-      ∙ (ap (λ o. least_of_two o (least_of (misfits (rows_in top))))
+  first_listed = least_append (all_faults (all_positions top)) (misfits (file_rows top))
+      ∙ (ap (λ o. least_of_two o (least_of (misfits (file_rows top))))
       (all_least (all_positions top)) ∙ same_by (before_datasets least) refl)

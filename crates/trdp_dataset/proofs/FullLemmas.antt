@@ -28,7 +28,7 @@ use Rattle.trdp_dataset.specs.Positions.{element_positions, dataset_positions}
 use Rattle.trdp_dataset.specs.Faults.{fault_at, rank, least_of_two, least_fault, bad_unless}
 use Rattle.trdp_dataset.specs.Faults.{count_fault}
 use Rattle.trdp_dataset.specs.Configs.{element_of, element_in, elements_in, dataset_in, datasets_in}
-use Rattle.trdp_dataset.specs.Misfits.{RowModel, element_from, row_in, rows_in}
+use Rattle.trdp_dataset.specs.Misfits.{RowModel, element_from, row_in, file_rows}
 use Rattle.trdp_dataset.proofs.LeastLemmas.{at_most}
 use Rattle.trdp_dataset.proofs.SingleFaultLemmas.{IsLate}
 
@@ -229,8 +229,8 @@ tables_full (t ∷ ts) g h =
 
 -- no dataset of the file lacks anything
 pub rows_full : (top : Members) → AreLast (dataset_positions top)
-    → rows_in top ≡ map full (datasets_in top)
-unfolding datasets_in dataset_positions rows_in
+    → file_rows top ≡ map full (datasets_in top)
+unfolding datasets_in dataset_positions file_rows
 rows_full top g =
     let ts = tables_at Dataset top in
     let parts = last_back (positions_at (Dataset ∷ []) top) (positions_of_all dataset_keys ts

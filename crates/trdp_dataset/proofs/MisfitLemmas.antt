@@ -12,19 +12,19 @@ use Rattle.toml.specs.declared.value.Value.{Value}
 use Rattle.trdp_dataset.specs.declared.element.Element.{Element}
 use Rattle.trdp_dataset.specs.declared.key.Key.{Key}
 use Rattle.trdp_dataset.specs.declared.fault.ConfigFault.TheVariants.{WrongType, NoCount}
-use Rattle.trdp_dataset.specs.declared.row.Row.{Row}
+use Rattle.trdp_dataset.specs.declared.row.FileRow.{FileRow}
 use Rattle.trdp_dataset.specs.Keys.{wanted_by}
 use Rattle.trdp_dataset.specs.Datasets.{DatasetModel}
 use Rattle.trdp_dataset.proofs.ListedLemmas.{listed_turn}
 use Rattle.trdp_dataset.specs.Findings.{listed_unless, member_wanted, unwanted}
 use Rattle.trdp_dataset.specs.Misfits.{RowModel, row_seen, rows_seen, added, firsts, twice_at}
-use Rattle.trdp_dataset.specs.Misfits.{twices, is_uncounted, may_count, uncounted, row_dataset}
+use Rattle.trdp_dataset.specs.Misfits.{twices, is_uncounted, may_count, counts_missing, row_dataset}
 use Rattle.trdp_dataset.specs.Misfits.{known_in, sound_in, unfit_of, deep_of, big_of, fit_faults}
 use Rattle.trdp_dataset.specs.Misfits.{misfits}
 use Rattle.trdp_dataset.specs.declared.fault.ConfigFault.{ConfigFault}
 
 -- the datasets so far and those that are added later
-pub firsts_turn : (f : RowModel → Option DatasetModel) (rows : List Row) (i : ℕ) (row : Row)
+pub firsts_turn : (f : RowModel → Option DatasetModel) (rows : List FileRow) (i : ℕ) (row : FileRow)
     (old now all : List DatasetModel) → i < length rows → row ≡ get_or rows i row
     → now ≡ added old (f (row_seen row)) → firsts old (map f (rows_seen (drop i rows))) ≡ all
     → firsts now (map f (rows_seen (drop (i + 1) rows))) ≡ all
@@ -35,7 +35,7 @@ firsts_turn f rows i row old now all inside item e so_far =
     ∙ (sym (at_drop_more (λ rs. firsts old (map f (rows_seen rs))) rows i row inside) ∙ so_far))
 
 -- a dataset that comes next is there already, or it is added
-pub twices_step : (f : RowModel → Option DatasetModel) (row : Row) (rest : List Row)
+pub twices_step : (f : RowModel → Option DatasetModel) (row : FileRow) (rest : List FileRow)
     (old now : List DatasetModel) → now ≡ added old (f (row_seen row))
     → twices old (map f (rows_seen (row ∷ rest)))
     ≡ twice_at old (f (row_seen row)) ++ twices now (map f (rows_seen rest))
@@ -44,10 +44,10 @@ twices_step f row rest old now e = ap
 
 -- the element that comes next may count the one after it
 uncounted_step : (c : Bool) (e : Option Element) (rest : List (Option Element)) (next : Bool)
-    → next ≡ may_count e → uncounted c (e ∷ rest)
-    ≡ listed_unless (not (is_uncounted c e)) NoCount ++ uncounted next rest
+    → next ≡ may_count e → counts_missing c (e ∷ rest)
+    ≡ listed_unless (not (is_uncounted c e)) NoCount ++ counts_missing next rest
 uncounted_step c e rest next same =
-    ap (λ b. listed_unless (not (is_uncounted c e)) NoCount ++ uncounted b rest) (sym same)
+    ap (λ b. listed_unless (not (is_uncounted c e)) NoCount ++ counts_missing b rest) (sym same)
 
 -- the member that comes next is before the ones after it
 unwanted_step : (key : Key) (few : Bool) (vs : List Value) (i : ℕ) (v : Value)
@@ -119,10 +119,10 @@ read_turn before after f xs i d old now all first inside listed so_far =
 pub uncounted_turn : (was next : Bool) (es : List (Option Element)) (i : ℕ) (d : Option Element)
     (old now all : List ConfigFault) → i < length es
     → now ≡ old ++ listed_unless (not (is_uncounted was (get_or es i d))) NoCount
-    → next ≡ may_count (get_or es i d) → old ++ uncounted was (drop i es) ≡ all
-    → now ++ uncounted next (drop (i + 1) es) ≡ all
+    → next ≡ may_count (get_or es i d) → old ++ counts_missing was (drop i es) ≡ all
+    → now ++ counts_missing next (drop (i + 1) es) ≡ all
 uncounted_turn was next es i d old now all inside listed same so_far =
-    read_turn (uncounted was) (uncounted next)
+    read_turn (counts_missing was) (counts_missing next)
     (λ e. listed_unless (not (is_uncounted was e)) NoCount) es i d old now all
     (uncounted_step was (get_or es i d) (drop (i + 1) es) next same) inside listed so_far
 

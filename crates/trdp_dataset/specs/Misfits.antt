@@ -6,7 +6,7 @@ use Rattle.std.specs.Prelude.{option_and_then, if◌then◌else◌}
 use Rattle.std.specs.List.{filter_map}
 use Rattle.toml.specs.Data.{Data, Members, as_table}
 use Rattle.trdp_dataset.specs.declared.element.Element.{Element}
-use Rattle.trdp_dataset.specs.declared.row.Row.{Row}
+use Rattle.trdp_dataset.specs.declared.row.FileRow.{FileRow}
 use Rattle.trdp_dataset.specs.declared.key.Key.TheVariants.{Dataset, DatasetId, Elements}
 use Rattle.trdp_dataset.specs.declared.fault.ConfigFault.{ConfigFault}
 use Rattle.trdp_dataset.specs.declared.fault.ConfigFault.TheVariants.{TwiceId, NoDataset, NoCount}
@@ -26,10 +26,10 @@ pub record RowModel : Type 0 where
   pub id : Option ℕ
   pub elements : List (Option Element)
 
-abbrev pub row_seen : Row → RowModel
+abbrev pub row_seen : FileRow → RowModel
 row_seen row = record { id = row.id; elements = row.elements.items }
 
-abbrev pub rows_seen : List Row → List RowModel
+abbrev pub rows_seen : List FileRow → List RowModel
 rows_seen rows = map row_seen rows
 
 -- the element that a member of an array is
@@ -44,8 +44,8 @@ row_in members = record {
 }
 
 -- the datasets of a file
-unfoldable pub rows_in : Members → List RowModel
-rows_in top = map row_in (tables_at Dataset top)
+unfoldable pub file_rows : Members → List RowModel
+file_rows top = map row_in (tables_at Dataset top)
 
 -- the elements that are there
 abbrev pub known_among : List (Option Element) → List Element
@@ -76,13 +76,13 @@ twices ds [] = []
 twices ds (o ∷ later) = twice_at ds o ++ twices (added ds o) later
 
 -- the dataset of a type, if it isn't there
-abbrev pub missing : List DatasetModel → Option ℕ → List ConfigFault
-missing known None = []
-missing known (Some id) = listed_unless (is_known known id) (NoDataset id)
+abbrev pub unknown_nested : List DatasetModel → Option ℕ → List ConfigFault
+unknown_nested known None = []
+unknown_nested known (Some id) = listed_unless (is_known known id) (NoDataset id)
 
 abbrev pub missing_of : List DatasetModel → Option Element → List ConfigFault
 missing_of known None = []
-missing_of known (Some e) = missing known (nested_id (form_of e.kind))
+missing_of known (Some e) = unknown_nested known (nested_id (form_of e.kind))
 
 -- an element is an array of size 0 without a count before it
 abbrev pub lacks_count : (is_counted : Bool) → Element → Bool
@@ -99,15 +99,15 @@ may_count None = true
 may_count (Some e) = is_count e
 
 -- the arrays of size 0 that no count comes before; the first element comes after one if so said
-abbrev pub uncounted : (is_counted : Bool) → List (Option Element) → List ConfigFault
-uncounted is_counted [] = []
-uncounted is_counted (e ∷ es) =
-    listed_unless (not (is_uncounted is_counted e)) NoCount ++ uncounted (may_count e) es
+abbrev pub counts_missing : (is_counted : Bool) → List (Option Element) → List ConfigFault
+counts_missing is_counted [] = []
+counts_missing is_counted (e ∷ es) =
+    listed_unless (not (is_uncounted is_counted e)) NoCount ++ counts_missing (may_count e) es
 
 -- the faults of the elements of a dataset
 unfoldable pub unfit_of : List DatasetModel → RowModel → List ConfigFault
 unfit_of known row =
-    flat_map (missing_of known) row.elements ++ uncounted false row.elements
+    flat_map (missing_of known) row.elements ++ counts_missing false row.elements
 
 -- the elements that are no datasets, or that are of datasets which are there
 abbrev pub sound_among : List DatasetModel → List Element → List Element

@@ -4,9 +4,9 @@ ghost use Rattle.std.specs.Prelude.{◌≡◌, ◌++◌, [], not, false, map, fl
 ghost use Rattle.toml.specs.View.{table_view};
 ghost use Rattle.trdp_dataset.specs.declared.fault.ConfigFault.TheVariants.{NoCount};
 ghost use Rattle.trdp_dataset.specs.Findings.{faults_of, listed_unless};
-ghost use Rattle.trdp_dataset.specs.Misfits.{row_seen, rows_seen, rows_in, row_dataset};
+ghost use Rattle.trdp_dataset.specs.Misfits.{row_seen, rows_seen, file_rows, row_dataset};
 ghost use Rattle.trdp_dataset.specs.Misfits.{added, firsts, twice_at, twices, known_in};
-ghost use Rattle.trdp_dataset.specs.Misfits.{missing_of, is_uncounted, may_count, uncounted};
+ghost use Rattle.trdp_dataset.specs.Misfits.{missing_of, is_uncounted, may_count, counts_missing};
 ghost use Rattle.trdp_dataset.specs.Misfits.{unfit_of, sound_dataset};
 ghost use Rattle.trdp_dataset.specs.Misfits.{sound_in, deep_of, big_of, misfits};
 
@@ -16,7 +16,7 @@ use crate::element::Element;
 use crate::fault::ConfigFault;
 use crate::finding::{Cause, Finding};
 use crate::nested::Nested;
-use crate::row::{Row, known_among, read_rows};
+use crate::row::{FileRow, known_among, read_rows};
 use std::alloc::{AllocError, Global};
 use toml::Table;
 
@@ -30,7 +30,7 @@ pub(crate) fn push_misfits<'a>(
     top: &'a Table,
 ) -> Result<(), AllocError>
     ensures faults { OnOk result (faults_of found.new.items
-        ≡ faults_of found.old.items ++ misfits (rows_in (table_view top.now))) }
+        ≡ faults_of found.old.items ++ misfits (file_rows (table_view top.now))) }
 {
     let rows = read_rows(alloc, top)?;
     push_misfits_of(alloc, found, &rows)?;
@@ -44,7 +44,7 @@ pub(crate) fn push_misfits<'a>(
 fn push_misfits_of(
     alloc: Global,
     found: &mut Vec<Finding<'_>>,
-    rows: &[Row],
+    rows: &[FileRow],
 ) -> Result<(), AllocError>
     ensures faults { OnOk result (faults_of found.new.items
         ≡ faults_of found.old.items ++ misfits (rows_seen rows.now)) }
@@ -67,7 +67,7 @@ fn push_misfits_of(
 fn push_twice(
     alloc: Global,
     found: &mut Vec<Finding<'_>>,
-    rows: &[Row],
+    rows: &[FileRow],
 ) -> Result<Datasets, AllocError>
     ensures known { IfOk result (λ known. known ≡ known_in (rows_seen rows.now)) }
     ensures faults { OnOk result (faults_of found.new.items
@@ -88,7 +88,7 @@ fn push_if_twice(
     alloc: Global,
     found: &mut Vec<Finding<'_>>,
     known: &mut Datasets,
-    row: &Row,
+    row: &FileRow,
 ) -> Result<(), AllocError>
     ensures known { OnOk result (known.new ≡ added known.old (row_dataset (row_seen row.now))) }
     ensures faults { OnOk result (faults_of found.new.items
@@ -110,7 +110,7 @@ fn push_if_twice(
 fn push_unfit(
     found: &mut Vec<Finding<'_>>,
     known: &Datasets,
-    rows: &[Row],
+    rows: &[FileRow],
 ) -> Result<(), AllocError>
     ensures faults { OnOk result (faults_of found.new.items
         ≡ faults_of found.old.items ++ flat_map (unfit_of known.now) (rows_seen rows.now)) }
@@ -129,7 +129,7 @@ fn push_unfit(
 fn push_unfit_of(
     found: &mut Vec<Finding<'_>>,
     known: &Datasets,
-    row: &Row,
+    row: &FileRow,
 ) -> Result<(), AllocError>
     ensures faults { OnOk result (faults_of found.new.items
         ≡ faults_of found.old.items ++ unfit_of known.now (row_seen row.now)) }
@@ -142,7 +142,11 @@ fn push_unfit_of(
 ///
 /// # Errors
 /// [`AllocError`] where there is no memory.
-fn push_unknown(found: &mut Vec<Finding<'_>>, known: &Datasets, row: &Row) -> Result<(), AllocError>
+fn push_unknown(
+    found: &mut Vec<Finding<'_>>,
+    known: &Datasets,
+    row: &FileRow,
+) -> Result<(), AllocError>
     ensures faults { OnOk result (faults_of found.new.items ≡ faults_of found.old.items
         ++ flat_map (missing_of known.now) (row_seen row.now).elements) }
 {
@@ -160,7 +164,7 @@ fn push_unknown(found: &mut Vec<Finding<'_>>, known: &Datasets, row: &Row) -> Re
 fn push_if_unknown(
     found: &mut Vec<Finding<'_>>,
     known: &Datasets,
-    row: &Row,
+    row: &FileRow,
     index: usize,
     element: &Option<Element>,
 ) -> Result<(), AllocError>
@@ -184,9 +188,9 @@ fn push_if_unknown(
 ///
 /// # Errors
 /// [`AllocError`] where there is no memory.
-fn push_uncounted(found: &mut Vec<Finding<'_>>, row: &Row) -> Result<(), AllocError>
+fn push_uncounted(found: &mut Vec<Finding<'_>>, row: &FileRow) -> Result<(), AllocError>
     ensures faults { OnOk result (faults_of found.new.items
-        ≡ faults_of found.old.items ++ uncounted false (row_seen row.now).elements) }
+        ≡ faults_of found.old.items ++ counts_missing false (row_seen row.now).elements) }
 {
     let elements = row.elements.as_slice();
     let mut is_counted = false;
@@ -204,7 +208,7 @@ fn push_uncounted(found: &mut Vec<Finding<'_>>, row: &Row) -> Result<(), AllocEr
 /// [`AllocError`] where there is no memory.
 fn push_if_uncounted(
     found: &mut Vec<Finding<'_>>,
-    row: &Row,
+    row: &FileRow,
     index: usize,
     is_counted: bool,
     element: &Option<Element>,
@@ -237,7 +241,7 @@ fn may_count(element: &Option<Element>) -> bool
 /// # Errors
 /// [`AllocError`] where there is no memory.
 #[tactic(auto, unfolding(crate::specs::Misfits::sound_in))]
-fn sound_datasets(alloc: Global, known: &Datasets, rows: &[Row]) -> Result<Datasets, AllocError>
+fn sound_datasets(alloc: Global, known: &Datasets, rows: &[FileRow]) -> Result<Datasets, AllocError>
     ensures value { IfOk result (λ sound. sound ≡ sound_in known.now (rows_seen rows.now)) }
 {
     let mut sound = Datasets::new(alloc);
@@ -255,7 +259,7 @@ fn push_sound(
     alloc: Global,
     sound: &mut Datasets,
     known: &Datasets,
-    row: &Row,
+    row: &FileRow,
 ) -> Result<(), AllocError>
     ensures value { OnOk result
         (sound.new ≡ added sound.old (sound_dataset known.now (row_seen row.now))) }
@@ -276,7 +280,7 @@ fn push_too_deep(
     found: &mut Vec<Finding<'_>>,
     known: &Datasets,
     sound: &Nested,
-    rows: &[Row],
+    rows: &[FileRow],
 ) -> Result<(), AllocError>
     ensures faults { OnOk result (faults_of found.new.items ≡ faults_of found.old.items
         ++ flat_map (deep_of known.now sound.now) (rows_seen rows.now)) }
@@ -297,7 +301,7 @@ fn push_if_deep(
     found: &mut Vec<Finding<'_>>,
     known: &Datasets,
     sound: &Nested,
-    row: &Row,
+    row: &FileRow,
 ) -> Result<(), AllocError>
     ensures faults { OnOk result (faults_of found.new.items
         ≡ faults_of found.old.items ++ deep_of known.now sound.now (row_seen row.now)) }
@@ -318,7 +322,7 @@ fn push_too_big(
     found: &mut Vec<Finding<'_>>,
     known: &Datasets,
     sound: &Nested,
-    rows: &[Row],
+    rows: &[FileRow],
 ) -> Result<(), AllocError>
     ensures faults { OnOk result (faults_of found.new.items ≡ faults_of found.old.items
         ++ flat_map (big_of known.now sound.now) (rows_seen rows.now)) }
@@ -339,7 +343,7 @@ fn push_if_big(
     found: &mut Vec<Finding<'_>>,
     known: &Datasets,
     sound: &Nested,
-    row: &Row,
+    row: &FileRow,
 ) -> Result<(), AllocError>
     ensures faults { OnOk result (faults_of found.new.items
         ≡ faults_of found.old.items ++ big_of known.now sound.now (row_seen row.now)) }

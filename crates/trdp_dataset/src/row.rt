@@ -5,7 +5,7 @@ ghost use Rattle.toml.specs.View.{table_view};
 ghost use Rattle.trdp_dataset.specs.Elements.{form_of};
 ghost use Rattle.trdp_dataset.specs.Datasets.{is_known, passes};
 ghost use Rattle.trdp_dataset.specs.Positions.{items_at};
-ghost use Rattle.trdp_dataset.specs.Misfits.{element_from, row_in, row_seen, rows_in};
+ghost use Rattle.trdp_dataset.specs.Misfits.{element_from, row_in, row_seen, file_rows};
 ghost use Rattle.trdp_dataset.specs.Misfits.{rows_seen, known_among, sound_among, sound_elements};
 
 use crate::datasets::Datasets;
@@ -21,7 +21,7 @@ use toml::Table;
 
 /// A dataset of a file, which may have faults.
 #[derive(Drop)]
-pub(crate) struct Row {
+pub(crate) struct FileRow {
     /// Its name.
     pub(crate) name: DatasetName,
     /// Its identifier; None where it has none.
@@ -30,7 +30,7 @@ pub(crate) struct Row {
     pub(crate) elements: Vec<Option<Element>>,
 }
 
-impl Row {
+impl FileRow {
     ghost use Rattle.std.specs.Prelude.{◌≡◌, IfOk};
     ghost use Rattle.trdp_dataset.specs.Misfits.{row_seen, sound_elements};
 
@@ -144,10 +144,10 @@ fn read_elements(alloc: Global, dataset: &Table) -> Result<Vec<Option<Element>>,
 /// # Errors
 /// [`AllocError`] where there is no memory.
 #[tactic(auto, unfolding(crate::specs::Misfits::row_in))]
-fn read_row(alloc: Global, table: &Table, index: usize) -> Result<Row, AllocError>
+fn read_row(alloc: Global, table: &Table, index: usize) -> Result<FileRow, AllocError>
     ensures value { IfOk result (λ row. row_seen row ≡ row_in (table_view table.now)) }
 {
-    Ok(Row {
+    Ok(FileRow {
         name: DatasetName::of(table, index),
         id: identifier_of(table),
         elements: read_elements(alloc, table)?,
@@ -158,9 +158,9 @@ fn read_row(alloc: Global, table: &Table, index: usize) -> Result<Row, AllocErro
 ///
 /// # Errors
 /// [`AllocError`] where there is no memory.
-#[tactic(auto, unfolding(crate::specs::Misfits::rows_in))]
-pub(crate) fn read_rows(alloc: Global, top: &Table) -> Result<Vec<Row>, AllocError>
-    ensures value { IfOk result (λ rows. rows_seen rows.items ≡ rows_in (table_view top.now)) }
+#[tactic(auto, unfolding(crate::specs::Misfits::file_rows))]
+pub(crate) fn read_rows(alloc: Global, top: &Table) -> Result<Vec<FileRow>, AllocError>
+    ensures value { IfOk result (λ rows. rows_seen rows.items ≡ file_rows (table_view top.now)) }
 {
     let mut rows = Vec::new(alloc);
     let members = members_at(top, Key::Dataset);

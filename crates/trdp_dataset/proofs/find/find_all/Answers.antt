@@ -3,7 +3,7 @@ use Rattle.toml.specs.View.{table_view}
 use Rattle.trdp_dataset.specs.Positions.{node_positions, slot_positions, dataset_positions}
 use Rattle.trdp_dataset.specs.Positions.{all_positions}
 use Rattle.trdp_dataset.specs.Findings.{faults_of, least_of, all_faults}
-use Rattle.trdp_dataset.specs.Misfits.{rows_in, misfits}
+use Rattle.trdp_dataset.specs.Misfits.{file_rows, misfits}
 use Rattle.trdp_dataset.proofs.ListedLemmas.{listed_both}
 use Rattle.trdp_dataset.proofs.FitLemmas.{first_listed}
 use Rattle.trdp_dataset.proofs.find.find_all.Goals as goal
@@ -20,6 +20,6 @@ returns c =
     [] _ _ slots c.in_ok-push_datasets.ensures.faults in
     record {
       first = ap least_of (c.in_ok-push_misfits.ensures.faults
-          ∙ ap (λ fs. fs ++ misfits (rows_in top)) datasets)
+          ∙ ap (λ fs. fs ++ misfits (file_rows top)) datasets)
           ∙ first_listed top;
     }

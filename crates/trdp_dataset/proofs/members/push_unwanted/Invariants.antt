@@ -6,5 +6,5 @@ use Rattle.trdp_dataset.proofs.members.push_unwanted.Given as goal
 abbrev pub invariant-loop-index : goal.invariant-loop-index
 invariant-loop-index l = faults_of l.found.items
     ++ unwanted l.key l.are_few (map view (take l.index l.members))
-        (map view (drop l.index l.members))
+    (map view (drop l.index l.members))
     ≡ faults_of l.fn.found.items ++ unwanted l.key l.are_few [] (map view l.members)
