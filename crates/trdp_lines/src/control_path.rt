@@ -1,18 +1,12 @@
 //! The connections at the path of a control port: one application at a time.
 
-ghost use Rattle.std.specs.Prelude.{◌≡◌, ◌≤◌, length, IfSome};
-ghost use Rattle.trdp_lines.specs.Paths.{HandsEnd};
-
 use crate::admission::{LAST_NUMBER, refuse};
 use crate::connections::{Accepted, Came, Connections};
 use crate::conversation::Conversation;
-use crate::intake::copy_front;
 use crate::path_fault::{AcceptFault, LostText};
+use crate::reset_line::end_line;
 use std::alloc::Global;
 use std::marker::Model;
-
-/// The line that is handed in where an application has ended.
-const RESET: &[u8] = b"reset";
 
 /// The connections at a path, of which one is the application: from its first line on until it
 /// ends. What it says is handed in line by line, and its end as the line `reset`.
@@ -401,18 +395,4 @@ impl<C: Connections> ControlPath<C> {
             self.speaker.begin(Some(next));
         }
     }
-}
-
-/// The line for the end of the connection of that number, if it has spoken: it is put at the front
-/// of the room, cut to it, and the result is the number and how many bytes it has there.
-fn end_line(number: u64, spoke: bool, room: &mut [u8]) -> Option<(u64, usize)>
-    ensures within { IfSome result (λ found. found.1 ≤ length room.new) }
-    ensures length { length room.new ≡ length room.old }
-    ensures line { HandsEnd number spoke (length room.old) result room.new }
-{
-    if !spoke {
-        return None;
-    }
-    let len = copy_front(RESET, room);
-    Some((number, len))
 }

@@ -54,6 +54,7 @@ mod laws;
 mod operator_path;
 mod outgoing;
 mod path_fault;
+mod reset_line;
 mod seats;
 
 pub use connections::{Accepted, Came, Connections, Went};
