@@ -41,12 +41,17 @@ mod record_numbers;
 mod results;
 mod start;
 
-ghost use Rattle.std.specs.Prelude.{◌≡◌};
+ghost use Rattle.std.specs.Prelude.{◌≡◌, ◌≢◌, []};
 ghost use Rattle.std.specs.Borrow.{sem};
 ghost use Rattle.std_alloc.specs.Box.Ownership.{box_owns};
 ghost use Rattle.std.specs.contracts.impls.GlobalAllocator.TheImpl.{ghosts};
 ghost use Rattle.trdp_node.specs.contracts.held.Held.{the_row as held_row};
-ghost use Rattle.trdp_node.specs.Openings.{TellsOpening};
+ghost use Rattle.trdp_model.specs.declared.fault.NodeFault.{NodeFault};
+ghost use Rattle.trdp_model.specs.declared.fault.Refusal.{Refusal};
+ghost use Rattle.trdp_pd.specs.declared.object.Reason.{Reason};
+ghost use Rattle.trdp_text.specs.RecordText.{name_of_fault, name_of_reason, name_of_refusal};
+ghost use Rattle.trdp_node.specs.Codes.{reason_code, refusal_code, status_of_fault};
+ghost use Rattle.trdp_node.specs.Openings.{TellsOpening, filled};
 ghost use Rattle.trdp_node.specs.Outcomes.{Prints, ShowsRecord, Steps, TakesInLine, TellsState};
 
 use crate::held::Held;
@@ -217,19 +222,34 @@ fn look(held: &mut Held, state: &mut State)
 
 /// Writes the name of a refusal; returns the status.
 #[unsafe(no_mangle)]
-pub extern "C" fn trdp_node_raw_refusal_name(number: u32, name: &mut Name) -> u32 {
+pub extern "C" fn trdp_node_raw_refusal_name(number: u32, name: &mut Name) -> u32
+    ensures found { (it : Refusal) → number ≡ refusal_code it
+        → (name.new.text ≡ filled 16 (name_of_refusal it)) × (result ≡ 0) }
+    ensures none { ((it : Refusal) → number ≢ refusal_code it)
+        → (name.new.text ≡ filled 16 []) × (result ≡ 25) }
+{
     names::put_refusal_name(number, name)
 }
 
 /// Writes the name of a node's fault; returns the status.
 #[unsafe(no_mangle)]
-pub extern "C" fn trdp_node_raw_fault_name(number: u32, name: &mut Name) -> u32 {
+pub extern "C" fn trdp_node_raw_fault_name(number: u32, name: &mut Name) -> u32
+    ensures found { (it : NodeFault) → number ≡ status_of_fault it
+        → (name.new.text ≡ filled 16 (name_of_fault it)) × (result ≡ 0) }
+    ensures none { ((it : NodeFault) → number ≢ status_of_fault it)
+        → (name.new.text ≡ filled 16 []) × (result ≡ 25) }
+{
     names::put_fault_name(number, name)
 }
 
 /// Writes the name of a reason; returns the status.
 #[unsafe(no_mangle)]
-pub extern "C" fn trdp_node_raw_reason_name(number: u32, name: &mut Name) -> u32 {
+pub extern "C" fn trdp_node_raw_reason_name(number: u32, name: &mut Name) -> u32
+    ensures found { (it : Reason) → number ≡ reason_code it
+        → (name.new.text ≡ filled 16 (name_of_reason it)) × (result ≡ 0) }
+    ensures none { ((it : Reason) → number ≢ reason_code it)
+        → (name.new.text ≡ filled 16 []) × (result ≡ 25) }
+{
     names::put_reason_name(number, name)
 }
 
