@@ -1,9 +1,11 @@
 pub mod AddressText
 pub mod HexText
+pub mod Limits
 pub mod Moments
 pub mod NumberText
 pub mod Numbers
 pub mod QuotaLimits
+pub mod Reported
 pub mod SessionText
 pub mod StatusText
 pub mod Uris

@@ -3,6 +3,7 @@
 //! An [`Ip`] is an IPv4 address, a [`Place`] an address with a UDP port, and [`Topo`] the two
 //! topology counters. A [`Moment`] is a time since the node began. [`Quotas`] say how many objects
 //! of each kind a slot may have. Message data has [`Uri`]s, [`SessionId`]s and statuses.
+//! [`LINE_MAX`] and [`MD_PAYLOAD_MAX`] are limits that several crates keep.
 //!
 //! ```text
 //! let place = read_place(b"10.0.0.2:17224")?;    // Place { ip: Ip(0x0a00_0002), port: 17224 }
@@ -15,6 +16,7 @@
 
 mod address;
 mod hex;
+mod limits;
 mod moment;
 mod number;
 mod place;
@@ -27,6 +29,7 @@ mod uri;
 
 pub use address::{IP_LENGTH, PLACE_LENGTH, push_ip, push_place, read_ip, read_place};
 pub use hex::{push_hex, read_hex, read_hex_into};
+pub use limits::{LINE_MAX, MD_PAYLOAD_MAX};
 pub use moment::{MOMENT_MAX, Moment};
 pub use number::{NUMBER_LENGTH, push_number, read_number};
 pub use place::{Ip, Place};

@@ -1,78 +1,55 @@
 -- What a call asks of one object.
-use Rattle.std.specs.Prelude.{◌≡◌, ℕ, Bool, true, false, not, ◌||◌}
+use Rattle.std.specs.Prelude.{◌≡◌, ℕ, Bool, true, false, [], Some}
 use Rattle.trdp_filter.specs.declared.globals.Globals.{Globals}
 use Rattle.trdp_model.specs.declared.any_object.AnyObject.{AnyObject}
-use Rattle.trdp_calls.specs.declared.asked.Asked.{Asked}
-use Rattle.trdp_calls.specs.declared.asked.Asked.TheVariants.{Put, Get, Pull, End, Reply, Query}
-use Rattle.trdp_calls.specs.declared.asked.Asked.TheVariants.{ReplyError, Confirm, Abort}
+use Rattle.trdp_model.specs.declared.kind.Kind.TheVariants.{Publisher, Subscription, Requester}
+use Rattle.trdp_model.specs.declared.kind.Kind.TheVariants.{Listener}
 use Rattle.trdp_model.specs.Configs.{NodeSetup}
 use Rattle.trdp_model.specs.Acts.{Act}
 use Rattle.trdp_model.specs.Pulls.{pulls}
 use Rattle.trdp_model.specs.Calls.{puts, shows, ends, at_object, called}
-use Rattle.trdp_model.specs.Events.{CallModel, PutCall, GetCall, PullCall, UnpublishCall}
-use Rattle.trdp_model.specs.Events.{UnsubscribeCall, ClosePullCall, UnlistenCall, ReplyCall}
-use Rattle.trdp_model.specs.Events.{QueryCall, ReplyErrorCall, ConfirmCall, AbortCall}
+use Rattle.trdp_model.specs.Events.{CallModel, PublishCall, PutCall, UnpublishCall, SubscribeCall}
+use Rattle.trdp_model.specs.Events.{GetCall, UnsubscribeCall, OpenPullCall, PullCall}
+use Rattle.trdp_model.specs.Events.{ClosePullCall, ListenCall, UnlistenCall, NotifyCall}
+use Rattle.trdp_model.specs.Events.{RequestCall, ReplyCall, QueryCall, ReplyErrorCall}
+use Rattle.trdp_model.specs.Events.{ConfirmCall, AbortCall, ResetCall}
 use Rattle.trdp_model.specs.Slots.{SlotState}
-use Rattle.trdp_outbox.specs.Rooms.{call_room, message_room, confirm_room, answer_room}
-use Rattle.trdp_outbox.specs.declared.room.Room.{Room}
-use Rattle.std.specs.Prelude.{length}
 use Rattle.trdp_model.specs.Replies.{replies, queries, reply_errors, confirms, aborts}
-
--- the act of the object of a handle of which that is asked
-abbrev pub asked_act : NodeSetup → Globals → ℕ → Asked → AnyObject → Act
-asked_act setup globals handle (Put bytes) object = puts setup bytes.now object
-asked_act setup globals handle Get object = shows object
-asked_act setup globals handle Pull object = pulls globals object
-asked_act setup globals handle (End kind) object = ends kind object
-asked_act setup globals handle (Reply com_id status payload) object =
-    replies com_id status payload.now object
-asked_act setup globals handle (Query com_id status timeout payload) object =
-    queries globals.now com_id status timeout payload.now object
-asked_act setup globals handle (ReplyError com_id status) object =
-    reply_errors com_id status object
-asked_act setup globals handle (Confirm place status) object =
-    confirms handle place status object
-asked_act setup globals handle Abort object = aborts object
-
--- the call asks something of an object of process data
-abbrev pub concerns_data : CallModel → Bool
-concerns_data (PutCall handle bytes) = true
-concerns_data (GetCall handle) = true
-concerns_data (PullCall handle) = true
-concerns_data (UnpublishCall handle) = true
-concerns_data (UnsubscribeCall handle) = true
-concerns_data (ClosePullCall handle) = true
-concerns_data _ = false
-
--- the call answers a request
-abbrev pub answers_request : CallModel → Bool
-answers_request (ReplyCall handle com_id status payload) = true
-answers_request (QueryCall handle com_id status timeout payload) = true
-answers_request (ReplyErrorCall handle com_id status) = true
-answers_request _ = false
-
--- the call asks something else of an object of message data
-abbrev pub concerns_messages : CallModel → Bool
-concerns_messages (UnlistenCall handle) = true
-concerns_messages (ConfirmCall handle place status) = true
-concerns_messages (AbortCall handle) = true
-concerns_messages _ = false
 
 -- the call makes an object, sends a message without one, or ends all objects
 abbrev pub concerns_no_object : CallModel → Bool
-concerns_no_object call = not (concerns_data call || answers_request call || concerns_messages call)
+concerns_no_object (PublishCall terms) = true
+concerns_no_object (SubscribeCall terms) = true
+concerns_no_object (OpenPullCall terms) = true
+concerns_no_object (ListenCall filter) = true
+concerns_no_object (NotifyCall terms payload) = true
+concerns_no_object (RequestCall terms payload) = true
+concerns_no_object ResetCall = true
+concerns_no_object _ = false
 
--- room for the records of what is asked of an object
-abbrev pub asked_room : Asked → Room
-asked_room (Reply com_id status payload) = message_room (length payload.now)
-asked_room (Query com_id status timeout payload) = message_room (length payload.now)
-asked_room (ReplyError com_id status) = message_room 0
-asked_room (Confirm place status) = confirm_room
-asked_room _ = answer_room
+-- what the call makes of the object of that handle; a call that concerns no single object leaves
+-- each as it is
+abbrev pub asked_act : NodeSetup → Globals → ℕ → CallModel → AnyObject → Act
+asked_act setup globals handle (PutCall _ bytes) object = puts setup bytes object
+asked_act setup globals handle (GetCall _) object = shows object
+asked_act setup globals handle (PullCall _) object = pulls globals object
+asked_act setup globals handle (UnpublishCall _) object = ends Publisher object
+asked_act setup globals handle (UnsubscribeCall _) object = ends Subscription object
+asked_act setup globals handle (ClosePullCall _) object = ends Requester object
+asked_act setup globals handle (UnlistenCall _) object = ends Listener object
+asked_act setup globals handle (ReplyCall _ com_id status payload) object =
+    replies com_id status payload object
+asked_act setup globals handle (QueryCall _ com_id status timeout payload) object =
+    queries globals.now com_id status timeout payload object
+asked_act setup globals handle (ReplyErrorCall _ com_id status) object =
+    reply_errors com_id status object
+asked_act setup globals handle (ConfirmCall _ place status) object =
+    confirms handle place status object
+asked_act setup globals handle (AbortCall _) object = aborts object
+asked_act setup globals handle _ object = record { left = Some object; records = [] }
 
--- the call asks this of the object of that handle
-pub record IsAskedBy (call : CallModel) (handle : ℕ) (asked : Asked) : Type 0 where
-  pub effect : (setup : NodeSetup) (slot : SlotState) (globals : Globals)
-      → called setup slot globals call
-      ≡ at_object slot handle (asked_act setup globals handle asked)
-  pub room : call_room call ≡ asked_room asked
+-- the call asks something of the object of that handle, and has no other effect
+abbrev pub IsAskedOf : CallModel → ℕ → Type 0
+IsAskedOf call handle =
+    (setup : NodeSetup) (slot : SlotState) (globals : Globals) → called setup slot globals call
+    ≡ at_object slot handle (asked_act setup globals handle call)

@@ -3,7 +3,7 @@
 ghost use Rattle.std.specs.Prelude.{◌≡◌, ◌<◌, ◌≤◌, ◌++◌, ◌∷◌, [], length, OnOk, OnErr, true};
 ghost use Rattle.std.specs.Prelude.{IfNone};
 ghost use Rattle.trdp_base.specs.Moments.{last_moment};
-ghost use Rattle.trdp_head.specs.Limits.{md_payload_limit};
+ghost use Rattle.trdp_base.specs.Limits.{md_payload_limit};
 ghost use Rattle.trdp_md.specs.Callers.{new_caller};
 ghost use Rattle.trdp_model.specs.declared.any_object.AnyObject.TheVariants.{Caller as Asking};
 ghost use Rattle.trdp_model.specs.Kinds.{kind_of};
@@ -14,7 +14,7 @@ ghost use Rattle.trdp_model.specs.Requests.{request_refusal, request_sent};
 ghost use Rattle.trdp_model.specs.Replies.{confirm_refusal, confirms_unless, confirms};
 ghost use Rattle.trdp_outbox.specs.Rooms.{HasRoom, message_room, confirm_room, makes_buffer};
 ghost use Rattle.trdp_store.specs.Acting.{slot_at, Becomes};
-ghost use Rattle.trdp_store.specs.Deeds.{left_of};
+ghost use Rattle.trdp_store.specs.Deeds.{object_left};
 ghost use Rattle.trdp_store.specs.Indexed.{com_of};
 ghost use Rattle.trdp_store.specs.InSession.{own_session};
 
@@ -25,7 +25,7 @@ use trdp_filter::{Globals, topo_valid};
 use trdp_head::MD_PAYLOAD_MAX;
 use trdp_md::{Caller, CallerTerms, request_head};
 use trdp_model::{AnyObject, Kind, Refusal};
-use trdp_outbox::{Form, Outbox, PlainAnswer};
+use trdp_outbox::{Outbox, PlainAnswer, RowForm};
 use trdp_store::{Counts, Left, Setting, Store, has_session};
 
 /// The shortest timeout of a request or query, in microseconds (profile).
@@ -135,7 +135,7 @@ fn confirm_by(
     out: &mut Outbox,
 ) -> Left
     requires { HasRoom out.old confirm_room }
-    ensures left { left_of result (Asking caller.new)
+    ensures left { object_left result (Asking caller.new)
         ≡ (confirms_unless (confirm_refusal caller.old place status) handle place status
         caller.old).left }
     ensures records { out.new.records
@@ -155,7 +155,7 @@ fn confirm_by(
     match caller.closed() {
         None => Left::Stays,
         Some(reason) => {
-            out.push(s, Form::Closed(handle, reason));
+            out.push(s, RowForm::Closed(handle, reason));
             Left::Ended
         }
     }
@@ -171,7 +171,7 @@ pub fn confirm(
     out: &mut Outbox,
 ) -> Left
     requires { HasRoom out.old confirm_room }
-    ensures left { left_of result object.new ≡ (confirms handle place status object.old).left }
+    ensures left { object_left result object.new ≡ (confirms handle place status object.old).left }
     ensures records { out.new.records
         ≡ out.old.records ++ labelled s (confirms handle place status object.old).records }
     ensures kind { kind_of object.new ≡ kind_of object.old }

@@ -1,7 +1,7 @@
 //! What a call does to the slot that makes it, and its answer.
 
 ghost use Rattle.std.specs.Prelude.{◌≡◌, ◌<◌, ◌≤◌, length, OnOk, OnErr, IfOk, IfErr};
-ghost use Rattle.std.specs.Prelude.{None, true, false, IfSome, IfNone};
+ghost use Rattle.std.specs.Prelude.{None, true, IfSome, IfNone};
 ghost use Rattle.trdp_base.specs.Moments.{last_moment};
 ghost use Rattle.trdp_marshal.specs.Items.{model_of};
 ghost use Rattle.trdp_model.specs.Configs.{setup_of};
@@ -10,14 +10,11 @@ ghost use Rattle.trdp_model.specs.Calls.{called, at_object};
 ghost use Rattle.trdp_model.specs.Values.{item_bytes, item_refusal, valued};
 ghost use Rattle.trdp_calls.specs.Spelled.{IsRefusedAs};
 ghost use Rattle.trdp_model.specs.Slots.{entry_under};
-ghost use Rattle.trdp_outbox.specs.Rooms.{HasRoom, call_room, makes_buffer};
-ghost use Rattle.trdp_calls.specs.Asked.{asked_room};
-ghost use Rattle.trdp_outbox.specs.Rooms.{CallMayLack};
-ghost use Rattle.trdp_calls.specs.Asked.{asked_act, IsAskedBy, concerns_no_object};
-ghost use Rattle.trdp_calls.specs.Asked.{concerns_data, answers_request, concerns_messages};
+ghost use Rattle.trdp_outbox.specs.Rooms.{CallMayLack, HasRoom, call_room, makes_buffer};
+ghost use Rattle.trdp_calls.specs.Asked.{IsAskedOf, asked_act, concerns_no_object};
 ghost use Rattle.trdp_store.specs.Acting.{slot_at, Becomes};
 
-use crate::asked::{Asked, Asking};
+use crate::asked::Asking;
 use crate::callers::request;
 use crate::listeners::listen;
 use crate::notices::notify;
@@ -28,102 +25,37 @@ use crate::value::{SpellFault, spell};
 use std::alloc::AllocError;
 use trdp_head::PD_PAYLOAD_MAX;
 use trdp_marshal::Item;
-use trdp_model::{Call, Kind, Refusal};
+use trdp_model::{Call, Refusal};
 use trdp_outbox::{Outbox, PlainAnswer, Room};
 use trdp_store::{Setting, Sought, Store, object_of};
 
-/// Which object of process data a call concerns, by its handle, and what it asks of it; None where
-/// it concerns none.
-fn asked_of_data<'a>(call: &Call<'a>) -> Option<(u32, Asked<'a>)>
-    ensures asks { IfSome result (λ of. IsAskedBy (call_model call.now) of.0 of.1) }
-    ensures none { IfNone result (concerns_data (call_model call.now) ≡ false) }
-{
-    match *call {
-        Call::Put { handle, bytes } => Some((handle, Asked::Put(bytes))),
-        Call::Get { handle } => Some((handle, Asked::Get)),
-        Call::Pull { handle } => Some((handle, Asked::Pull)),
-        Call::Unpublish { handle } => Some((handle, Asked::End(Kind::Publisher))),
-        Call::Unsubscribe { handle } => Some((handle, Asked::End(Kind::Subscription))),
-        Call::ClosePull { handle } => Some((handle, Asked::End(Kind::Requester))),
-        _ => None,
-    }
-}
-
-/// Which object a call that answers a request concerns, by its handle, and what it asks of it;
-/// None where the call answers none.
-fn asked_of_answer<'a>(call: &Call<'a>) -> Option<(u32, Asked<'a>)>
-    ensures asks { IfSome result (λ of. IsAskedBy (call_model call.now) of.0 of.1) }
-    ensures none { IfNone result (answers_request (call_model call.now) ≡ false) }
-{
-    match *call {
-        Call::Reply {
-            handle,
-            com_id,
-            status,
-            payload,
-        } => Some((
-            handle,
-            Asked::Reply {
-                com_id,
-                status,
-                payload,
-            },
-        )),
-        Call::Query {
-            handle,
-            com_id,
-            status,
-            timeout,
-            payload,
-        } => Some((
-            handle,
-            Asked::Query {
-                com_id,
-                status,
-                timeout,
-                payload,
-            },
-        )),
-        Call::ReplyError {
-            handle,
-            com_id,
-            status,
-        } => Some((handle, Asked::ReplyError { com_id, status })),
-        _ => None,
-    }
-}
-
-/// Which object of message data a call that answers no request concerns, by its handle, and what
-/// it asks of it; None where it concerns none.
-fn asked_of_messages<'a>(call: &Call<'a>) -> Option<(u32, Asked<'a>)>
-    ensures asks { IfSome result (λ of. IsAskedBy (call_model call.now) of.0 of.1) }
-    ensures none { IfNone result (concerns_messages (call_model call.now) ≡ false) }
-{
-    match *call {
-        Call::Unlisten { handle } => Some((handle, Asked::End(Kind::Listener))),
-        Call::Confirm {
-            handle,
-            place,
-            status,
-        } => Some((handle, Asked::Confirm { place, status })),
-        Call::Abort { handle } => Some((handle, Asked::Abort)),
-        _ => None,
-    }
-}
-
-/// Which object a call concerns, by its handle, and what it asks of it; None where it concerns no
-/// single object.
-fn asked_of<'a>(call: &Call<'a>) -> Option<(u32, Asked<'a>)>
-    ensures asks { IfSome result (λ of. IsAskedBy (call_model call.now) of.0 of.1) }
+/// The handle of the object that a call asks something of; None where it concerns no single
+/// object.
+fn handle_of(call: &Call<'_>) -> Option<u32>
+    ensures asks { IfSome result (λ handle. IsAskedOf (call_model call.now) handle) }
     ensures none { IfNone result (concerns_no_object (call_model call.now) ≡ true) }
 {
-    if let Some(asked) = asked_of_data(call) {
-        return Some(asked);
+    match *call {
+        Call::Put { handle, .. }
+        | Call::Get { handle }
+        | Call::Pull { handle }
+        | Call::Unpublish { handle }
+        | Call::Unsubscribe { handle }
+        | Call::ClosePull { handle }
+        | Call::Unlisten { handle }
+        | Call::Reply { handle, .. }
+        | Call::Query { handle, .. }
+        | Call::ReplyError { handle, .. }
+        | Call::Confirm { handle, .. }
+        | Call::Abort { handle } => Some(handle),
+        Call::Publish(_)
+        | Call::Subscribe(_)
+        | Call::OpenPull(_)
+        | Call::Listen(_)
+        | Call::Notify { .. }
+        | Call::Request { .. }
+        | Call::Reset => None,
     }
-    if let Some(asked) = asked_of_answer(call) {
-        return Some(asked);
-    }
-    asked_of_messages(call)
 }
 
 /// Serves a call of slot `s` that concerns no single object, and records its answer.
@@ -176,16 +108,16 @@ fn serve_slot(
     Ok(())
 }
 
-/// Has the object of that handle in slot `s` do what is asked, and adds its records; where there
+/// Has the object of that handle in slot `s` do what a call asks, and adds its records; where there
 /// is none, the call is refused.
 fn ask(store: &mut Store, s: u16, handle: u32, asking: &Asking<'_, '_>, out: &mut Outbox)
     requires slot { s < length store.old }
     requires now { asking.now.setting.globals.now.now ≤ last_moment }
-    requires room { HasRoom out.old (asked_room asking.now.asked.now) }
+    requires room { HasRoom out.old (call_room (call_model asking.now.call.now)) }
     ensures { Becomes s
         (at_object (slot_at s store.old) handle
         (asked_act (setup_of asking.now.setting.config.now) asking.now.setting.globals.now handle
-        asking.now.asked.now)) store.old store.new out.old out.new }
+        (call_model asking.now.call.now))) store.old store.new out.old out.new }
 {
     let sought = Sought {
         slot: s,
@@ -220,15 +152,15 @@ pub fn serve(
 {
     let room = Room::of_call(call);
     out.reserve(room.rows, room.bytes)?;
-    if let Some((handle, asked)) = asked_of(call) {
-        let asking = Asking {
-            asked: &asked,
-            setting: *setting,
-        };
-        ask(store, s, handle, &asking, out);
-        return Ok(());
-    }
-    serve_slot(store, s, call, setting, out)
+    let Some(handle) = handle_of(call) else {
+        return serve_slot(store, s, call, setting, out);
+    };
+    let asking = Asking {
+        call,
+        setting: *setting,
+    };
+    ask(store, s, handle, &asking, out);
+    Ok(())
 }
 
 /// The bytes of an item as a value of the object of that handle in slot `s`.
@@ -293,9 +225,12 @@ pub fn put_value(
             Ok(())
         }
         Ok(bytes) => {
-            let asked = Asked::Put(&bytes);
+            let call = Call::Put {
+                handle,
+                bytes: &bytes,
+            };
             let asking = Asking {
-                asked: &asked,
+                call: &call,
                 setting: *setting,
             };
             ask(store, s, handle, &asking, out);

@@ -2,7 +2,7 @@
 
 ghost use Rattle.std.specs.Prelude.{◌≡◌, ◌≤◌, ◌++◌, ◌∷◌, [], Some, length};
 ghost use Rattle.trdp_base.specs.Moments.{last_moment};
-ghost use Rattle.trdp_head.specs.Limits.{md_payload_limit};
+ghost use Rattle.trdp_base.specs.Limits.{md_payload_limit};
 ghost use Rattle.trdp_head.specs.MdBytes.{md_bytes};
 ghost use Rattle.trdp_model.specs.Kinds.{kind_of};
 ghost use Rattle.trdp_model.specs.declared.record.Protocol.TheVariants.{Md};
@@ -10,7 +10,7 @@ ghost use Rattle.trdp_model.specs.Records.{Answers, DoneIs, Sends, labelled};
 ghost use Rattle.trdp_model.specs.Replies.{reply_refusal, query_refusal, error_refusal};
 ghost use Rattle.trdp_model.specs.Replies.{replies, queries, reply_errors};
 ghost use Rattle.trdp_outbox.specs.Rooms.{HasRoom, message_room};
-ghost use Rattle.trdp_store.specs.Deeds.{left_of};
+ghost use Rattle.trdp_store.specs.Deeds.{object_left};
 ghost use Rattle.trdp_store.specs.Indexed.{com_of};
 ghost use Rattle.trdp_store.specs.InSession.{own_session};
 
@@ -100,7 +100,7 @@ pub fn reply(
     out: &mut Outbox,
 ) -> Left
     requires { HasRoom out.old (message_room (length payload.now)) }
-    ensures left { left_of result object.new
+    ensures left { object_left result object.new
         ≡ (replies com_id status payload.now object.old).left }
     ensures records { out.new.records
         ≡ out.old.records ++ labelled s (replies com_id status payload.now object.old).records }
@@ -181,7 +181,7 @@ pub fn reply_error(
     out: &mut Outbox,
 ) -> Left
     requires { HasRoom out.old (message_room 0) }
-    ensures left { left_of result object.new ≡ (reply_errors com_id status object.old).left }
+    ensures left { object_left result object.new ≡ (reply_errors com_id status object.old).left }
     ensures records { out.new.records
         ≡ out.old.records ++ labelled s (reply_errors com_id status object.old).records }
     ensures kind { kind_of object.new ≡ kind_of object.old }

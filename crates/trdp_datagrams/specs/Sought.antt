@@ -4,7 +4,7 @@ use Rattle.std.specs.Prelude.{ℕ, min, List, [], ◌∷◌, Option, Some, None,
 use Rattle.std.specs.Prelude.{◌+◌, length, if◌then◌else◌}
 use Rattle.std.specs.List.{flat_map}
 use Rattle.trdp_base.specs.declared.session.SessionId.{SessionId}
-use Rattle.trdp_head.specs.Limits.{md_payload_limit}
+use Rattle.trdp_base.specs.Limits.{md_payload_limit}
 use Rattle.trdp_head.specs.declared.md.MdKind.{MdKind}
 use Rattle.trdp_head.specs.declared.md.MdKind.TheVariants as message
 use Rattle.trdp_head.specs.declared.pd.PdHead.{PdHead}

@@ -5,7 +5,7 @@ ghost use Rattle.std.specs.Prelude.{◌≡◌, ◌+◌, ◌*◌, ◌<◌, ◌≤
 ghost use Rattle.std.specs.Prelude.{vec_len, vec_capacity, Some, None, true, slice_index_or};
 ghost use Rattle.std.specs.Prelude.{ℕ, ◌^◌};
 ghost use Rattle.std.specs.List.{flat_map};
-ghost use Rattle.trdp_head.specs.Limits.{md_payload_limit};
+ghost use Rattle.trdp_base.specs.Limits.{md_payload_limit};
 ghost use Rattle.trdp_filter.specs.Telegrams.{telegram_model};
 ghost use Rattle.trdp_table.specs.Tables.{room_of};
 ghost use Rattle.trdp_store.specs.TableSlots.{slots_of};

@@ -20,7 +20,7 @@ use trdp_dataset::NodeConfig;
 use trdp_filter::Telegram;
 use trdp_marshal::fits;
 use trdp_model::AnyObject;
-use trdp_outbox::{Form, Outbox};
+use trdp_outbox::{Outbox, RowForm};
 use trdp_pd::{Object, Reason, Taken};
 use trdp_store::{Counts, Deed, Left, Setting, Store, count_act};
 
@@ -82,7 +82,7 @@ impl Deed for Handing<'_, '_> {
         let fits = fits_object(setting.config, telegram, object);
         match object.take(telegram, setting.globals, fits) {
             Taken::Nothing | Taken::Stored => {}
-            Taken::Alive => out.push(s, Form::Alive(handle)),
+            Taken::Alive => out.push(s, RowForm::Alive(handle)),
             Taken::Pulled(head) => {
                 push_answer(
                     object,
@@ -96,11 +96,11 @@ impl Deed for Handing<'_, '_> {
             Taken::Replied => push_replied(telegram, handle, s, out),
             Taken::RepliedLast => {
                 push_replied(telegram, handle, s, out);
-                out.push(s, Form::Closed(handle, Reason::Done));
+                out.push(s, RowForm::Closed(handle, Reason::Done));
                 return Left::Ended;
             }
             Taken::Confirmed(status) => {
-                out.push(s, Form::Confirmed(handle, status));
+                out.push(s, RowForm::Confirmed(handle, status));
                 return Left::Ended;
             }
         }

@@ -1,7 +1,7 @@
 //! What is recorded for a slot of a message that its object received.
 
 ghost use Rattle.std.specs.Prelude.{◌≡◌, ◌≤◌, ◌+◌, ◌++◌};
-ghost use Rattle.trdp_head.specs.Limits.{md_payload_limit};
+ghost use Rattle.trdp_base.specs.Limits.{md_payload_limit};
 ghost use Rattle.trdp_filter.specs.Telegrams.{telegram_model, IsWithinLimit};
 ghost use Rattle.trdp_model.specs.Records.{labelled};
 ghost use Rattle.trdp_model.specs.Notices.{heard};

@@ -4,7 +4,7 @@ ghost use Rattle.std.specs.Prelude.{◌≡◌, ℕ, ◌≤◌, ◌<◌, ◌+◌,
 ghost use Rattle.std.specs.Prelude.{◌*◌, ◌^◌, true};
 ghost use Rattle.std.specs.List.{flat_map};
 ghost use Rattle.trdp_base.specs.Moments.{last_moment};
-ghost use Rattle.trdp_head.specs.Limits.{md_payload_limit};
+ghost use Rattle.trdp_base.specs.Limits.{md_payload_limit};
 ghost use Rattle.trdp_filter.specs.Telegrams.{telegram_model, IsWithinLimit};
 ghost use Rattle.trdp_table.specs.Tables.{room_of};
 ghost use Rattle.trdp_model.specs.Slots.{SlotState};
@@ -19,7 +19,7 @@ use crate::addressees::Addressee;
 use trdp_filter::{Globals, Telegram};
 use trdp_md::Replier;
 use trdp_model::{AnyObject, Kind, Message};
-use trdp_outbox::{Form, Outbox};
+use trdp_outbox::{Outbox, RowForm};
 use trdp_store::{Counts, Sought, Store, has_session};
 
 /// Records what a slot does with a request that its listener heard: unless a replier of the
@@ -71,7 +71,7 @@ fn ask(
                 &Message::of(*src, view),
             );
         }
-        Err(_) => out.push(s, Form::Overrun(listener.handle)),
+        Err(_) => out.push(s, RowForm::Overrun(listener.handle)),
     }
 }
 

@@ -23,7 +23,7 @@ use Rattle.trdp_dataset.specs.Positions.{value_at, position_at, positions_at, no
 use Rattle.trdp_dataset.specs.Positions.{positions_of_node, node_positions}
 use Rattle.trdp_dataset.specs.Faults.{again_fault, count_fault, addresses_fault, fault_at}
 use Rattle.trdp_dataset.specs.Configs.{addresses_of, node_value, groups_in}
-use Rattle.trdp_dataset.specs.Groups.{IsGroup, AreApart, AreGroups}
+use Rattle.trdp_dataset.specs.Groups.{IsGroup, NoTwoAlike, AreGroups}
 use Rattle.trdp_dataset.proofs.FilledLemmas.{AreGood, good_back, good_first, kept}
 use Rattle.trdp_dataset.proofs.FilledLemmas.{tables_by, uncounted}
 use Rattle.trdp_dataset.proofs.TwiceLemmas.{false_left, false_right}
@@ -38,7 +38,7 @@ others n (m ∷ ms) e = All-cons (λ m. n ≢ m) m ms
     (others n ms (false_right (n == m) (is_among ms n) e))
 
 -- where none is there twice, no two are alike
-apart : (ns : List ℕ) → has_again ns ≡ false → AreApart ns
+apart : (ns : List ℕ) → has_again ns ≡ false → NoTwoAlike ns
 apart [] e = λ i j d less within. absurd (omega arith)
 apart (n ∷ ns) e = AllPairs-cons (λ a b. a ≢ b) n ns
     (others n ns (false_left (is_among ns n) (has_again ns) e))

@@ -6,11 +6,11 @@ abbrev pub IsGroup : ℕ → Type 0
 IsGroup n = (3758096384 ≤ n) × (n ≤ 4026531839)
 
 -- no two of these are alike
-abbrev pub AreApart : List ℕ → Type 0
-AreApart groups = AllPairs (λ a b. a ≢ b) groups
+abbrev pub NoTwoAlike : List ℕ → Type 0
+NoTwoAlike groups = AllPairs (λ a b. a ≢ b) groups
 
 -- there are at most 32, each is the address of a group, and none is there twice
 pub record AreGroups (groups : List ℕ) : Type 0 where
   pub few : length groups ≤ 32
   pub within : All IsGroup groups
-  pub apart : AreApart groups
+  pub apart : NoTwoAlike groups

@@ -15,9 +15,10 @@ use crate::element::Element;
 use crate::fault::ConfigFault;
 use crate::size::zero_sizes;
 use std::alloc::Global;
+use trdp_base::MD_PAYLOAD_MAX;
 
 /// The most bytes of a dataset's zero value: what a message carries (IEC 61375-2-3:2015, Annex A).
-pub(crate) const VALUE_MAX: u64 = 65_388;
+pub(crate) const VALUE_MAX: u64 = MD_PAYLOAD_MAX as u64;
 
 /// The first dataset that the elements are of and that isn't there.
 fn unknown_in(datasets: &Datasets, elements: &[Element]) -> Option<u32>

@@ -1,6 +1,6 @@
 //! The keys that the clients read and the node ignores.
 
-use crate::place::Place;
+use crate::place::FileTable;
 use crate::reading::Reading;
 use crate::value::natural;
 use toml::Value;
@@ -56,12 +56,12 @@ const TELEGRAM_KEYS: [ClientKey; 7] = [
 ];
 
 /// The keys that the clients read in a table and the node ignores.
-pub(crate) fn client_keys(place: Place) -> &'static [ClientKey] {
+pub(crate) fn client_keys(place: FileTable) -> &'static [ClientKey] {
     match place {
-        Place::Root | Place::Node => &[],
-        Place::Slot(_) | Place::Dataset(_) => &NAME_KEYS,
-        Place::Element(..) => &ELEMENT_KEYS,
-        Place::Telegram(_) => &TELEGRAM_KEYS,
+        FileTable::Root | FileTable::Node => &[],
+        FileTable::Slot(_) | FileTable::Dataset(_) => &NAME_KEYS,
+        FileTable::Element(..) => &ELEMENT_KEYS,
+        FileTable::Telegram(_) => &TELEGRAM_KEYS,
     }
 }
 

@@ -28,7 +28,7 @@ use trdp_base::{Ip, Quotas};
 
 /// An application slot as a configuration has it.
 #[derive(Clone, Copy, Drop)]
-struct Slot {
+struct SlotConfig {
     /// How many objects of each kind the slot may hold, each 0 to 256.
     quotas: Quotas,
     /// The UDP port for the slot's calls, in host order; 0 for none.
@@ -60,7 +60,7 @@ pub struct NodeConfig {
     /// The time to live of telegrams that the node sends: at most that many hops, 1 to 255.
     ttl: u8,
     /// The application slots in the order of the file, 1 to 16.
-    slots: Vec<Slot>,
+    slots: Vec<SlotConfig>,
 }
 
 impl Model for NodeConfig {
@@ -107,10 +107,10 @@ fn quotas_in(slot: &Table) -> Quotas
 
 /// The slot that a table is.
 #[tactic(auto, unfolding(crate::specs::Configs::slot_config))]
-fn slot_in(slot: &Table) -> Slot
+fn slot_in(slot: &Table) -> SlotConfig
     ensures value { slot_model result ≡ slot_config (table_view slot.now) }
 {
-    Slot {
+    SlotConfig {
         quotas: quotas_in(slot),
         control_port: number_at(slot, Key::ControlPort),
     }
@@ -118,7 +118,7 @@ fn slot_in(slot: &Table) -> Slot
 
 /// The slots of a file.
 #[tactic(auto, unfolding(crate::specs::Configs::slots_in))]
-fn slots_in(alloc: Global, top: &Table) -> Result<Vec<Slot>, AllocError>
+fn slots_in(alloc: Global, top: &Table) -> Result<Vec<SlotConfig>, AllocError>
     ensures value { IfOk result (λ slots. slot_models slots.items ≡ slots_in (table_view top.now)) }
 {
     let mut slots = Vec::new(alloc);
@@ -188,7 +188,7 @@ fn config_in(
     registry: Registry,
     spare_control_ports: Vec<u16>,
     groups: Vec<u32>,
-    slots: Vec<Slot>,
+    slots: Vec<SlotConfig>,
 ) -> NodeConfig
     requires registry { registry ≡ datasets_in (table_view top.now) }
     requires spare { spare_control_ports.items ≡ spare_control_ports_in (table_view top.now) }
@@ -218,7 +218,7 @@ fn config_in(
 impl NodeConfig {
     ghost use Rattle.std.specs.Prelude.{◌≡◌, ◌≤◌, length, option_map, slice_get, All};
     ghost use Rattle.trdp_dataset.specs.Configs.{ReadsToml, config_of};
-    ghost use Rattle.trdp_dataset.specs.Groups.{IsGroup, AreApart};
+    ghost use Rattle.trdp_dataset.specs.Groups.{IsGroup, NoTwoAlike};
 
     /// The configuration of a file in TOML.
     ///
@@ -305,7 +305,7 @@ impl NodeConfig {
         ensures value { result.now ≡ self.now.groups }
         ensures most { length result.now ≤ 32 }
         ensures range { All IsGroup result.now }
-        ensures apart { AreApart result.now }
+        ensures apart { NoTwoAlike result.now }
     {
         &self.groups
     }

@@ -14,7 +14,7 @@ use crate::element::{Element, Form};
 use std::alloc::{AllocError, Global};
 
 /// How deep datasets may nest, the outermost included (profile).
-pub(crate) const DEPTH_MAX: u8 = 5;
+pub const DEPTH_MAX: u8 = 5;
 
 /// How deep a dataset may nest that is nested in another one.
 pub(crate) const NESTED_MAX: u8 = DEPTH_MAX - 1;

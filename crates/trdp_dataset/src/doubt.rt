@@ -2,7 +2,7 @@
 
 use crate::client_key::client_keys;
 use crate::lines::{Lines, Spot};
-use crate::place::Place;
+use crate::place::FileTable;
 use crate::sentence::{push_place, push_value};
 use std::alloc::{AllocError, Global};
 use toml::{Table, Value};
@@ -11,7 +11,7 @@ use toml::{Table, Value};
 #[derive(Clone, Copy)]
 pub(crate) struct Doubt<'a> {
     /// The table.
-    pub(crate) place: Place,
+    pub(crate) place: FileTable,
     /// The key.
     pub(crate) key: &'static str,
     /// Its value.
@@ -27,7 +27,7 @@ pub(crate) struct Doubt<'a> {
 pub(crate) fn push_unfit<'a>(
     doubts: &mut Vec<Doubt<'a>>,
     table: &'a Table,
-    place: Place,
+    place: FileTable,
 ) -> Result<(), AllocError> {
     for key in client_keys(place) {
         if let Some(value) = table.get(key.text()) {

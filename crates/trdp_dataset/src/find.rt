@@ -16,7 +16,7 @@ use crate::finding::{Cause, Finding};
 use crate::key::{Key, Wanted};
 use crate::members::{array_in, most_members, push_members};
 use crate::misfit::push_misfits;
-use crate::place::{DatasetName, Place};
+use crate::place::{DatasetName, FileTable};
 use crate::position::{
     DATASET_KEYS, ELEMENT_KEYS, NODE_KEYS, SLOT_KEYS, members_at, node_in, value_at,
 };
@@ -48,7 +48,7 @@ pub(crate) fn find_all(alloc: Global, top: &Table) -> Result<Vec<Finding<'_>>, A
 fn push_table<'a>(
     found: &mut Vec<Finding<'a>>,
     table: &'a Table,
-    place: Place,
+    place: FileTable,
     keys: &[Key],
 ) -> Result<(), AllocError>
     ensures faults { OnOk result (faults_of found.new.items ≡ faults_of found.old.items
@@ -67,7 +67,7 @@ fn push_table<'a>(
 fn push_position<'a>(
     found: &mut Vec<Finding<'a>>,
     table: &'a Table,
-    place: Place,
+    place: FileTable,
     key: Key,
 ) -> Result<(), AllocError>
     ensures faults { OnOk result (faults_of found.new.items ≡ faults_of found.old.items
@@ -89,7 +89,7 @@ fn push_position<'a>(
 fn push_key<'a>(
     found: &mut Vec<Finding<'a>>,
     fault: ConfigFault,
-    place: Place,
+    place: FileTable,
     key: Key,
     value: Option<&'a Value>,
 ) -> Result<(), AllocError>
@@ -128,9 +128,9 @@ fn push_node<'a>(found: &mut Vec<Finding<'a>>, top: &'a Table) -> Result<(), All
     ensures faults { OnOk result (faults_of found.new.items ≡ faults_of found.old.items
         ++ all_faults (node_positions (table_view top.now))) }
 {
-    push_table(found, top, Place::Root, &[Key::Node])?;
+    push_table(found, top, FileTable::Root, &[Key::Node])?;
     match node_in(top) {
-        Some(node) => push_table(found, node, Place::Node, &NODE_KEYS),
+        Some(node) => push_table(found, node, FileTable::Node, &NODE_KEYS),
         None => Ok(()),
     }
 }
@@ -143,7 +143,7 @@ fn push_slots<'a>(found: &mut Vec<Finding<'a>>, top: &'a Table) -> Result<(), Al
     ensures faults { OnOk result (faults_of found.new.items ≡ faults_of found.old.items
         ++ all_faults (slot_positions (table_view top.now))) }
 {
-    push_table(found, top, Place::Root, &[Key::Slot])?;
+    push_table(found, top, FileTable::Root, &[Key::Slot])?;
     push_slot_tables(found, top)
 }
 
@@ -175,7 +175,7 @@ fn push_slot<'a>(
         ++ all_faults (positions_if slot_keys (as_table (view member.now)))) }
 {
     match member.as_table() {
-        Some(table) => push_table(found, table, Place::Slot(slot), &SLOT_KEYS),
+        Some(table) => push_table(found, table, FileTable::Slot(slot), &SLOT_KEYS),
         None => Ok(()),
     }
 }
@@ -188,7 +188,7 @@ fn push_datasets<'a>(found: &mut Vec<Finding<'a>>, top: &'a Table) -> Result<(),
     ensures faults { OnOk result (faults_of found.new.items ≡ faults_of found.old.items
         ++ all_faults (dataset_positions (table_view top.now))) }
 {
-    push_table(found, top, Place::Root, &[Key::Dataset])?;
+    push_table(found, top, FileTable::Root, &[Key::Dataset])?;
     push_dataset_tables(found, top)?;
     push_elements(found, top)
 }
@@ -223,7 +223,7 @@ fn push_dataset<'a>(
 {
     match member.as_table() {
         Some(table) => {
-            let place = Place::Dataset(DatasetName::of(table, index));
+            let place = FileTable::Dataset(DatasetName::of(table, index));
             push_table(found, table, place, &DATASET_KEYS)
         }
         None => Ok(()),
@@ -297,7 +297,7 @@ fn push_element<'a>(
         ++ all_faults (positions_if element_keys (as_table (view member.now)))) }
 {
     match member.as_table() {
-        Some(table) => push_table(found, table, Place::Element(name, index), &ELEMENT_KEYS),
+        Some(table) => push_table(found, table, FileTable::Element(name, index), &ELEMENT_KEYS),
         None => Ok(()),
     }
 }

@@ -3,7 +3,7 @@
 use crate::fault::ConfigFault;
 use crate::key::Key;
 use crate::lines::Spot;
-use crate::place::Place;
+use crate::place::FileTable;
 use toml::Value;
 
 /// What is wrong at a place of a file.
@@ -35,7 +35,7 @@ pub(crate) struct Finding<'a> {
     /// The fault.
     pub(crate) fault: ConfigFault,
     /// The table.
-    pub(crate) place: Place,
+    pub(crate) place: FileTable,
     /// What is wrong there.
     pub(crate) cause: Cause<'a>,
 }

@@ -60,6 +60,7 @@ mod wish;
 mod words;
 
 pub use config::NodeConfig;
+pub use depth::DEPTH_MAX;
 pub use element::{Element, ElementKind, Form, Width};
 pub use fault::ConfigFault;
 pub use key::Key;

@@ -4,7 +4,7 @@
 //! line up to which it is TOML by itself. The one that adds something is the last one of the
 //! shortest front of the file that has it.
 
-use crate::place::Place;
+use crate::place::FileTable;
 use crate::value::items;
 use std::alloc::{AllocError, Global};
 use toml::Table;
@@ -17,7 +17,7 @@ const READ_MAX: usize = 24 << 20;
 #[derive(Clone, Copy)]
 pub(crate) struct Spot {
     /// The table.
-    pub(crate) place: Place,
+    pub(crate) place: FileTable,
     /// The key of the table; None where it is the table itself.
     pub(crate) key: Option<&'static str>,
     /// How many members the array at the key has then, at least.
@@ -102,7 +102,7 @@ impl<'a> Lines<'a> {
     /// # Errors
     /// [`AllocError`] where there is no memory.
     pub(crate) fn line_of(&mut self, spot: Spot) -> Result<Option<usize>, AllocError> {
-        if let (Place::Root, None) = (spot.place, spot.key) {
+        if let (FileTable::Root, None) = (spot.place, spot.key) {
             return Ok(Some(1));
         }
         let (low, high) = self.bounds(spot)?;

@@ -13,7 +13,7 @@ ghost use Rattle.trdp_dataset.specs.Findings.{listed_unless, unwanted, members_f
 use crate::fault::ConfigFault;
 use crate::finding::{Cause, Finding};
 use crate::key::{Key, Wanted};
-use crate::place::Place;
+use crate::place::FileTable;
 use crate::value::{address_within, any_gives, items};
 use std::alloc::AllocError;
 use toml::Value;
@@ -46,7 +46,7 @@ pub(crate) fn array_in(found: Option<&Value>) -> Option<&[Value]>
 #[tactic(auto, unfolding(crate::specs::Findings::members_faults))]
 pub(crate) fn push_members<'a>(
     found: &mut Vec<Finding<'a>>,
-    place: Place,
+    place: FileTable,
     key: Key,
     most: u16,
     members: &'a [Value],
@@ -72,7 +72,7 @@ pub(crate) fn push_members<'a>(
 /// [`AllocError`] where there is no memory.
 fn push_unwanted<'a>(
     found: &mut Vec<Finding<'a>>,
-    place: Place,
+    place: FileTable,
     key: Key,
     are_few: bool,
     members: &'a [Value],
@@ -108,7 +108,7 @@ fn compared_with(members: &[Value], index: usize, are_few: bool) -> &[Value]
 /// [`AllocError`] where there is no memory.
 fn push_if_unwanted<'a>(
     found: &mut Vec<Finding<'a>>,
-    place: Place,
+    place: FileTable,
     key: Key,
     before: &[Value],
     index: usize,

@@ -4,7 +4,7 @@
 use crate::client_key::{ClientKey, reading_of};
 use crate::doubt::{Doubt, push_doubts, push_unfit};
 use crate::key::Key;
-use crate::place::{DatasetName, Place};
+use crate::place::{DatasetName, FileTable};
 use crate::position::{members_at, value_at};
 use crate::read::number_at;
 use std::alloc::{AllocError, Global};
@@ -34,7 +34,7 @@ pub(crate) fn push_names(
 fn push_slots<'a>(doubts: &mut Vec<Doubt<'a>>, top: &'a Table) -> Result<(), AllocError> {
     for (slot, member) in members_at(top, Key::Slot).iter().enumerate() {
         if let Some(table) = member.as_table() {
-            push_unfit(doubts, table, Place::Slot(slot))?;
+            push_unfit(doubts, table, FileTable::Slot(slot))?;
         }
     }
     Ok(())
@@ -52,7 +52,7 @@ fn push_datasets<'a>(
     for (index, member) in members_at(top, Key::Dataset).iter().enumerate() {
         if let Some(table) = member.as_table() {
             let name = DatasetName::of(table, index);
-            push_unfit(doubts, table, Place::Dataset(name))?;
+            push_unfit(doubts, table, FileTable::Dataset(name))?;
             push_elements(alloc, doubts, members_at(table, Key::Elements), name)?;
         }
     }
@@ -72,7 +72,7 @@ fn push_elements<'a>(
     let mut seen = BTreeMap::new(alloc);
     for (index, member) in members.iter().enumerate() {
         if let Some(table) = member.as_table() {
-            let place = Place::Element(name, index);
+            let place = FileTable::Element(name, index);
             push_unfit(doubts, table, place)?;
             push_name_again(doubts, &mut seen, table, place)?;
             push_reading(doubts, table, place, counts_next(members, index))?;
@@ -88,9 +88,9 @@ fn push_elements<'a>(
 /// [`AllocError`] where there is no memory.
 fn push_name_again<'a>(
     doubts: &mut Vec<Doubt<'a>>,
-    seen: &mut BTreeMap<&'a str, Place>,
+    seen: &mut BTreeMap<&'a str, FileTable>,
     element: &'a Table,
-    place: Place,
+    place: FileTable,
 ) -> Result<(), AllocError> {
     let key = ClientKey::Name.text();
     let Some(value) = element.get(key) else {
@@ -117,7 +117,7 @@ fn push_name_again<'a>(
 fn push_reading<'a>(
     doubts: &mut Vec<Doubt<'a>>,
     element: &'a Table,
-    place: Place,
+    place: FileTable,
     is_count: bool,
 ) -> Result<(), AllocError> {
     let key = ClientKey::As.text();

@@ -40,7 +40,7 @@ impl fmt::Display for DatasetName {
 
 /// A table of a file. Slots, elements, telegrams and indexes count from 0.
 #[derive(Clone, Copy)]
-pub(crate) enum Place {
+pub(crate) enum FileTable {
     /// The file's root.
     Root,
     /// The table of the node.
@@ -55,29 +55,29 @@ pub(crate) enum Place {
     Telegram(usize),
 }
 
-impl Place {
+impl FileTable {
     /// The table at the place in the first lines of a file; None where it isn't there yet.
     pub(crate) fn table_in(self, top: &Table) -> Option<&Table> {
         match self {
-            Place::Root => Some(top),
-            Place::Node => node_in(top),
-            Place::Slot(slot) => members_at(top, Key::Slot).get(slot)?.as_table(),
-            Place::Dataset(name) => dataset_in(top, name),
-            Place::Element(name, index) => element_in(top, name, index),
-            Place::Telegram(index) => telegrams_in(top).get(index)?.as_table(),
+            FileTable::Root => Some(top),
+            FileTable::Node => node_in(top),
+            FileTable::Slot(slot) => members_at(top, Key::Slot).get(slot)?.as_table(),
+            FileTable::Dataset(name) => dataset_in(top, name),
+            FileTable::Element(name, index) => element_in(top, name, index),
+            FileTable::Telegram(index) => telegrams_in(top).get(index)?.as_table(),
         }
     }
 }
 
-impl fmt::Display for Place {
+impl fmt::Display for FileTable {
     fn fmt<W: fmt::Write>(&self, f: &mut fmt::Formatter<W>) -> fmt::Result {
         match *self {
-            Place::Root => f.write_str("the file's root"),
-            Place::Node => f.write_str("node"),
-            Place::Slot(slot) => write!(f, "slot {slot}"),
-            Place::Dataset(dataset) => write!(f, "{dataset}"),
-            Place::Element(dataset, index) => write!(f, "{dataset}, element {index}"),
-            Place::Telegram(index) => write!(f, "telegram {index}"),
+            FileTable::Root => f.write_str("the file's root"),
+            FileTable::Node => f.write_str("node"),
+            FileTable::Slot(slot) => write!(f, "slot {slot}"),
+            FileTable::Dataset(dataset) => write!(f, "{dataset}"),
+            FileTable::Element(dataset, index) => write!(f, "{dataset}, element {index}"),
+            FileTable::Telegram(index) => write!(f, "telegram {index}"),
         }
     }
 }

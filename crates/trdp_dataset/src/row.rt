@@ -13,7 +13,7 @@ use crate::element::{Element, Form};
 use crate::fault::ConfigFault;
 use crate::finding::{Cause, Finding};
 use crate::key::Key;
-use crate::place::{DatasetName, Place};
+use crate::place::{DatasetName, FileTable};
 use crate::position::members_at;
 use crate::read::{element_of, identifier_of};
 use std::alloc::{AllocError, Global};
@@ -40,7 +40,7 @@ impl FileRow {
     {
         Finding {
             fault,
-            place: Place::Dataset(self.name),
+            place: FileTable::Dataset(self.name),
             cause,
         }
     }
@@ -56,7 +56,7 @@ impl FileRow {
     {
         Finding {
             fault,
-            place: Place::Element(self.name, index),
+            place: FileTable::Element(self.name, index),
             cause,
         }
     }

@@ -4,7 +4,7 @@ use crate::check::VALUE_MAX;
 use crate::depth::DEPTH_MAX;
 use crate::finding::{Cause, Finding};
 use crate::key::Key;
-use crate::place::Place;
+use crate::place::FileTable;
 use crate::wish::{push_member_wish, push_wish};
 use std::alloc::{AllocError, Global};
 use std::fmt::Write;
@@ -35,7 +35,7 @@ pub(crate) fn push_finding(
 pub(crate) fn push_place(
     text: &mut String,
     line: Option<usize>,
-    place: Place,
+    place: FileTable,
 ) -> Result<(), AllocError> {
     match line {
         Some(line) => write!(text, "line {line}, {place}: "),

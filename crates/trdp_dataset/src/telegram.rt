@@ -2,7 +2,7 @@
 
 use crate::client_key::ClientKey;
 use crate::doubt::{Doubt, push_doubts, push_unfit};
-use crate::place::{Place, TELEGRAM_KEY, telegrams_in};
+use crate::place::{FileTable, TELEGRAM_KEY, telegrams_in};
 use crate::registry::Registry;
 use std::alloc::{AllocError, Global};
 use std::collections::BTreeMap;
@@ -40,7 +40,7 @@ fn doubts_of<'a>(
         if let Some(table) = member.as_table() {
             push_com_id(&mut doubts, &mut seen, table, index)?;
             push_dataset(&mut doubts, registry, table, index)?;
-            push_unfit(&mut doubts, table, Place::Telegram(index))?;
+            push_unfit(&mut doubts, table, FileTable::Telegram(index))?;
         }
     }
     Ok(doubts)
@@ -54,7 +54,7 @@ fn push_bracket<'a>(doubts: &mut Vec<Doubt<'a>>, top: &'a Table) -> Result<(), A
     if let Some(value) = top.get(TELEGRAM_KEY) {
         if value.is_table() {
             doubts.push(Doubt {
-                place: Place::Root,
+                place: FileTable::Root,
                 key: TELEGRAM_KEY,
                 value,
                 words: "[[telegram]] is wanted, with two brackets",
@@ -84,7 +84,7 @@ fn push_com_id<'a>(
     };
     if seen.insert(com_id, index)?.is_some() {
         doubts.push(Doubt {
-            place: Place::Telegram(index),
+            place: FileTable::Telegram(index),
             key,
             value,
             words: "an earlier telegram has the same",
@@ -107,7 +107,7 @@ fn push_dataset<'a>(
     if let Some(value) = telegram.get(key) {
         if !is_there(registry, value) {
             doubts.push(Doubt {
-                place: Place::Telegram(index),
+                place: FileTable::Telegram(index),
                 key,
                 value,
                 words: "no dataset has this identifier",

@@ -10,7 +10,7 @@ use toml::Table;
 
 /// A fault of a file that is reported.
 #[derive(Drop)]
-struct Told<'a> {
+struct ReportedFault<'a> {
     /// The fault.
     finding: Finding<'a>,
     /// The line on which it is; None where it wasn't found.
@@ -49,7 +49,7 @@ fn in_lines<'a>(
     file: &[u8],
     found: &[Finding<'a>],
     given: ConfigFault,
-) -> Result<Vec<Told<'a>>, AllocError> {
+) -> Result<Vec<ReportedFault<'a>>, AllocError> {
     let first = found.iter().position(|finding| finding.fault == given);
     let mut lines = Lines::new(alloc, file)?;
     let mut told = Vec::new(alloc);
@@ -60,7 +60,7 @@ fn in_lines<'a>(
         } else {
             line.unwrap_or(usize::MAX)
         };
-        told.push(Told {
+        told.push(ReportedFault {
             finding: *finding,
             line,
             rank,

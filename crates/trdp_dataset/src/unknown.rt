@@ -2,7 +2,7 @@
 
 use crate::client_key::client_keys;
 use crate::key::Key;
-use crate::place::{DatasetName, Place, TELEGRAM_KEY, telegrams_in};
+use crate::place::{DatasetName, FileTable, TELEGRAM_KEY, telegrams_in};
 use crate::position::{DATASET_KEYS, ELEMENT_KEYS, NODE_KEYS, SLOT_KEYS, members_at, node_in};
 use std::alloc::AllocError;
 use std::fmt::Write;
@@ -16,9 +16,9 @@ const ROOT_KEYS: [Key; 3] = [Key::Node, Key::Slot, Key::Dataset];
 /// # Errors
 /// [`AllocError`] where there is no memory.
 pub(crate) fn push_unknown(text: &mut String, top: &Table) -> Result<(), AllocError> {
-    push_unknown_in(text, top, Place::Root, &ROOT_KEYS)?;
+    push_unknown_in(text, top, FileTable::Root, &ROOT_KEYS)?;
     if let Some(node) = node_in(top) {
-        push_unknown_in(text, node, Place::Node, &NODE_KEYS)?;
+        push_unknown_in(text, node, FileTable::Node, &NODE_KEYS)?;
     }
     push_unknown_in_slots(text, top)?;
     push_unknown_in_datasets(text, top)?;
@@ -32,7 +32,7 @@ pub(crate) fn push_unknown(text: &mut String, top: &Table) -> Result<(), AllocEr
 fn push_unknown_in(
     text: &mut String,
     table: &Table,
-    place: Place,
+    place: FileTable,
     keys: &[Key],
 ) -> Result<(), AllocError> {
     for (name, _) in table {
@@ -44,14 +44,14 @@ fn push_unknown_in(
 }
 
 /// Whether a name is one of the keys of a table, or one that the clients read there.
-fn is_known(place: Place, keys: &[Key], name: &str) -> bool {
+fn is_known(place: FileTable, keys: &[Key], name: &str) -> bool {
     keys.iter().any(|key| key.text() == name) || is_clients(place, name)
 }
 
 /// Whether a name is a key of a table that the clients read: at the root that of the telegrams.
-fn is_clients(place: Place, name: &str) -> bool {
+fn is_clients(place: FileTable, name: &str) -> bool {
     match place {
-        Place::Root => name == TELEGRAM_KEY,
+        FileTable::Root => name == TELEGRAM_KEY,
         _ => client_keys(place).iter().any(|key| key.text() == name),
     }
 }
@@ -63,7 +63,7 @@ fn is_clients(place: Place, name: &str) -> bool {
 fn push_unknown_in_slots(text: &mut String, top: &Table) -> Result<(), AllocError> {
     for (slot, member) in members_at(top, Key::Slot).iter().enumerate() {
         if let Some(table) = member.as_table() {
-            push_unknown_in(text, table, Place::Slot(slot), &SLOT_KEYS)?;
+            push_unknown_in(text, table, FileTable::Slot(slot), &SLOT_KEYS)?;
         }
     }
     Ok(())
@@ -77,7 +77,7 @@ fn push_unknown_in_datasets(text: &mut String, top: &Table) -> Result<(), AllocE
     for (index, member) in members_at(top, Key::Dataset).iter().enumerate() {
         if let Some(table) = member.as_table() {
             let name = DatasetName::of(table, index);
-            push_unknown_in(text, table, Place::Dataset(name), &DATASET_KEYS)?;
+            push_unknown_in(text, table, FileTable::Dataset(name), &DATASET_KEYS)?;
             push_unknown_in_elements(text, table, name)?;
         }
     }
@@ -95,7 +95,7 @@ fn push_unknown_in_elements(
 ) -> Result<(), AllocError> {
     for (index, member) in members_at(dataset, Key::Elements).iter().enumerate() {
         if let Some(table) = member.as_table() {
-            push_unknown_in(text, table, Place::Element(name, index), &ELEMENT_KEYS)?;
+            push_unknown_in(text, table, FileTable::Element(name, index), &ELEMENT_KEYS)?;
         }
     }
     Ok(())
@@ -108,7 +108,7 @@ fn push_unknown_in_elements(
 fn push_unknown_in_telegrams(text: &mut String, top: &Table) -> Result<(), AllocError> {
     for (index, member) in telegrams_in(top).iter().enumerate() {
         if let Some(table) = member.as_table() {
-            push_unknown_in(text, table, Place::Telegram(index), &[])?;
+            push_unknown_in(text, table, FileTable::Telegram(index), &[])?;
         }
     }
     Ok(())

@@ -17,7 +17,7 @@ ghost use Rattle.trdp_model.specs.Fitting.{EachSound};
 use trdp_filter::Globals;
 use trdp_head::{MD_TELEGRAM_MAX, MdHead, PD_TELEGRAM_MAX, PdHead};
 use trdp_model::AnyObject;
-use trdp_outbox::{Form, Outbox};
+use trdp_outbox::{Outbox, RowForm};
 use trdp_pd::{Fired, Object};
 use trdp_store::{Counts, Deed, Left, Store, count_act};
 
@@ -85,9 +85,9 @@ impl Deed for Firing<'_> {
             Fired::Nothing => {}
             Fired::Data(head) => push_data(object, &head, s, out),
             Fired::Again(head) => push_again(object, &head, s, out),
-            Fired::Silent => out.push(s, Form::Silent(handle)),
+            Fired::Silent => out.push(s, RowForm::Silent(handle)),
             Fired::Closed(reason) => {
-                out.push(s, Form::Closed(handle, reason));
+                out.push(s, RowForm::Closed(handle, reason));
                 return Left::Ended;
             }
         }

@@ -25,8 +25,8 @@ use trdp_outbox::Outbox;
 use trdp_store::{Counts, Setting, Store};
 
 mod adding;
+mod firing;
 mod looks;
-mod moments;
 
 /// The communication node of one end device. It serves each slot of its configuration, and those
 /// that are added.

@@ -5,7 +5,8 @@ use Rattle.trdp_head.specs.PdTelegrams.{PdTelegram}
 use Rattle.trdp_head.specs.MdTelegrams.{MdTelegram}
 use Rattle.trdp_filter.specs.declared.telegram.Telegram.{Telegram}
 use Rattle.trdp_filter.specs.declared.telegram.Telegram.TheVariants.{Pd, Md}
-use Rattle.trdp_head.specs.Limits.{md_payload_limit, pd_payload_limit}
+use Rattle.trdp_base.specs.Limits.{md_payload_limit}
+use Rattle.trdp_head.specs.Limits.{pd_payload_limit}
 
 -- a telegram with the socket addresses that its datagram came from and was sent to
 pub data TelegramModel : Type 0 where

@@ -9,11 +9,6 @@ pd_payload_limit = 1432
 abbrev pub pd_telegram_limit : ℕ
 pd_telegram_limit = 1472
 
--- the most bytes that a message carries
--- rule: message.size
-abbrev pub md_payload_limit : ℕ
-md_payload_limit = 65388
-
 -- the longest message, with its header
 abbrev pub md_telegram_limit : ℕ
 md_telegram_limit = 65504

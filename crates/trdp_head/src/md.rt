@@ -15,13 +15,10 @@ mod layout;
 pub mod reading;
 pub mod writing;
 
-use trdp_base::{SessionId, Topo, Uri};
+use trdp_base::{MD_PAYLOAD_MAX, SessionId, Topo, Uri};
 
 /// The length in bytes of a message data header (IEC 61375-2-3).
 pub const MD_HEAD: usize = 116;
-
-/// The most bytes of payload that a message data telegram carries (IEC 61375-2-3).
-pub const MD_PAYLOAD_MAX: usize = 65388;
 
 /// The length in bytes of the longest message data telegram, a header and the longest payload
 /// (IEC 61375-2-3).

@@ -5,7 +5,7 @@ ghost use Rattle.std.specs.Prelude.{ℕ, ◌≡◌, ◌≤◌, ◌+◌, ◌-◌,
 ghost use Rattle.std.specs.Prelude.{take, drop, vec_len, vec_capacity};
 ghost use Rattle.trdp_head.specs.Checks.{with_check};
 ghost use Rattle.trdp_head.specs.TelegramBytes.{rounded_of, padding_of, telegram_bytes};
-ghost use Rattle.trdp_head.specs.Limits.{md_payload_limit};
+ghost use Rattle.trdp_base.specs.Limits.{md_payload_limit};
 
 use crate::fields::{put_bytes, put_zeros};
 use crate::prefix::CHECK_LENGTH;

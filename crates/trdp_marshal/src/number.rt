@@ -8,9 +8,6 @@ ghost use Rattle.trdp_marshal.specs.Reading.{number_at};
 use byteorder::{BigEndian, ByteOrder};
 use trdp_dataset::{Element, Width};
 
-/// How deep datasets nest at most, which the registry ensures (profile).
-pub(crate) const DEPTH: u8 = 5;
-
 /// The big-endian number in the first `len` bytes, and the bytes after them; None where there
 /// are fewer.
 #[tactic(auto, unfolding(crate::specs::Reading::number_at), using(crate::proofs::NumberLemmas::number_fits))]

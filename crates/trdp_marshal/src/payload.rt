@@ -14,8 +14,8 @@ ghost use Rattle.trdp_marshal.specs.Reading.{Reader, form_at, repeated_at, eleme
 ghost use Rattle.trdp_marshal.specs.Reading.{dataset_at, count_after, skipped, reading};
 ghost use Rattle.trdp_marshal.specs.Reading.{is_fitting_in};
 
-use crate::number::{DEPTH, item_count, number};
-use trdp_dataset::{Element, Form, Registry};
+use crate::number::{item_count, number};
+use trdp_dataset::{DEPTH_MAX, Element, Form, Registry};
 
 /// The bytes after `count` values of `size` bytes each, which aren't looked at; None where there
 /// are fewer bytes.
@@ -155,7 +155,7 @@ pub(crate) fn fits_dataset(registry: &Registry, id: u32, bytes: &[u8]) -> bool
     let Some(elements) = registry.elements(id) else {
         return false;
     };
-    match skip_elements(registry, DEPTH - 1, elements, bytes) {
+    match skip_elements(registry, DEPTH_MAX - 1, elements, bytes) {
         Some(rest) => rest.is_empty(),
         None => false,
     }

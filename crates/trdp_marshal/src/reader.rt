@@ -12,10 +12,10 @@ ghost use Rattle.trdp_marshal.specs.Faults.{has_items, GivesFound, FailsAs, deco
 
 use crate::fault::MarshalFault;
 use crate::item::Item;
-use crate::number::{DEPTH, half, item_count, number};
+use crate::number::{half, item_count, number};
 use crate::payload::{fits_dataset, has_items};
 use std::alloc::Global;
-use trdp_dataset::{Element, Form, Registry, Width};
+use trdp_dataset::{DEPTH_MAX, Element, Form, Registry, Width};
 
 /// The signed number that a number of this width is as two's complement.
 #[tactic(auto, unfolding(crate::specs::Numbers::signed_number))]
@@ -214,7 +214,7 @@ fn decoded(alloc: Global, registry: &Registry, id: u32, bytes: &[u8]) -> Result<
     if !fits_dataset(registry, id, bytes) {
         return Err(MarshalFault::Shape);
     }
-    let (item, _) = read_dataset(alloc, registry, DEPTH, id, bytes)?;
+    let (item, _) = read_dataset(alloc, registry, DEPTH_MAX, id, bytes)?;
     Ok(item)
 }
 

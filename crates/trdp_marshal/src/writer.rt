@@ -16,10 +16,10 @@ use crate::code::{signed_code, unsigned_code};
 use crate::fault::MarshalFault;
 use crate::item::Item;
 use crate::measure::{TOO_LONG, measure_dataset};
-use crate::number::{DEPTH, item_count};
+use crate::number::item_count;
 use crate::payload::has_items;
 use std::alloc::{AllocError, Global};
-use trdp_dataset::{Element, Form, Registry, Width};
+use trdp_dataset::{DEPTH_MAX, Element, Form, Registry, Width};
 
 /// Appends the lowest bytes of a number, the highest of them first.
 fn push_number(out: &mut Vec<u8>, n: u64, len: usize) -> Result<(), AllocError>
@@ -230,13 +230,13 @@ fn encoded(
     if !has_items(registry, id) {
         return Err(MarshalFault::NoDataset);
     }
-    match measure_dataset(registry, DEPTH, id, item) {
+    match measure_dataset(registry, DEPTH_MAX, id, item) {
         Some(len) => {
             if len == TOO_LONG {
                 return Err(MarshalFault::TooLong);
             }
             let mut bytes = Vec::with_capacity(alloc, len)?;
-            write_dataset(registry, DEPTH, id, item, &mut bytes)?;
+            write_dataset(registry, DEPTH_MAX, id, item, &mut bytes)?;
             Ok(bytes)
         }
         None => Err(MarshalFault::Shape),

@@ -15,7 +15,7 @@ use Rattle.trdp_head.specs.declared.md.MdKind.TheVariants as message
 use Rattle.trdp_filter.specs.declared.globals.Globals.{Globals}
 use Rattle.trdp_filter.specs.Counts.{topo_valid}
 use Rattle.trdp_filter.specs.Telegrams.{TelegramModel, PdIs, MdIs}
-use Rattle.trdp_md.specs.declared.answers.Answer.{Answer}
+use Rattle.trdp_md.specs.declared.answers.RequestAnswer.{RequestAnswer}
 use Rattle.trdp_md.specs.declared.caller.Caller.{Caller}
 use Rattle.trdp_md.specs.Answers.{is_place, has_answered, awaits, confirmed, confirmed_if}
 use Rattle.trdp_md.specs.Callers.{is_answer, is_for_caller, has_place, is_accepted_answer}
@@ -44,13 +44,13 @@ pub swapped : (a b : Place) → is_place a b ≡ false → is_place b a ≡ fals
 swapped a b is = grind (arith, nat_tests)
 
 -- one more answer, of another place
-pub apart_push : (p : Place) (answers : List Answer) (a : Answer) → IsApart p answers
+pub apart_push : (p : Place) (answers : List RequestAnswer) (a : RequestAnswer) → IsApart p answers
     → is_place a.place p ≡ false → IsApart p (answers ++ a ∷ [])
 apart_push p [] a h is = (is, tt)
 apart_push p (b ∷ answers) a h is = (h.0, apart_push p answers a h.1 is)
 
 -- one more answer, of a place that has not answered
-pub all_apart_push : (answers : List Answer) (a : Answer) → AreApart answers
+pub all_apart_push : (answers : List RequestAnswer) (a : RequestAnswer) → AreApart answers
     → has_answered answers a.place ≡ false → AreApart (answers ++ a ∷ [])
 unfolding has_answered
 all_apart_push [] a h none = (tt, tt)
@@ -76,11 +76,11 @@ apart_taking c (MdIs src dst t) globals fits h = either (is_accepted_answer c sr
     either false is = rw is h
 
 -- the answer once it is settled, if it is
-abbrev settled_if : Answer → Bool → Answer
+abbrev settled_if : RequestAnswer → Bool → RequestAnswer
 settled_if a b = if b then record a { confirm_owed = false } else a
 
 -- answers of a place that is confirmed are of the same places
-apart_map : (p place : Place) (answers : List Answer) → IsApart p answers
+apart_map : (p place : Place) (answers : List RequestAnswer) → IsApart p answers
     → IsApart p (map (confirmed_if place) answers)
 apart_map p place [] h = tt
 apart_map p place (a ∷ answers) h = (same (is_place a.place place), apart_map p place answers h.1)
@@ -92,7 +92,7 @@ apart_map p place (a ∷ answers) h = (same (is_place a.place place), apart_map 
     same false = h.0
 
 -- the same of all places
-pub all_apart_map : (place : Place) (answers : List Answer) → AreApart answers
+pub all_apart_map : (place : Place) (answers : List RequestAnswer) → AreApart answers
     → AreApart (map (confirmed_if place) answers)
 all_apart_map place [] h = tt
 all_apart_map place (a ∷ answers) h =
@@ -157,7 +157,7 @@ pub accepts_kind : (c : Caller) (src dst : Place) (telegram : MdTelegram)
 accepts_kind c src dst t is = answer_kind t.head.kind (first_part c src t.head is).0
 
 -- a confirmation settles the answers of its place
-settles_map : (place : Place) (answers : List Answer)
+settles_map : (place : Place) (answers : List RequestAnswer)
     → SettlesAt place answers (map (confirmed_if place) answers)
 settles_map place [] = tt
 settles_map place (a ∷ answers) =
@@ -183,7 +183,7 @@ settles_map place (a ∷ answers) =
 
 -- where no answer of the place awaits a confirmation, there is nothing to settle
 settles_none :
-    (place : Place) (answers : List Answer)
+    (place : Place) (answers : List RequestAnswer)
     → list_any (λ answer. is_place answer.place place && answer.confirm_owed) answers ≡ false
     → SettlesAt place answers answers
 settles_none place [] none = tt

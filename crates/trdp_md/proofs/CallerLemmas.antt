@@ -18,7 +18,7 @@ use Rattle.trdp_filter.specs.Telegrams.{TelegramModel, PdIs, MdIs}
 use Rattle.trdp_pd.specs.declared.object.Taken.TheVariants.{Nothing as NotTaken}
 use Rattle.trdp_pd.specs.Due.{has_come_by}
 use Rattle.trdp_pd.specs.PublisherLaws.{nat_le-past}
-use Rattle.trdp_md.specs.declared.answers.Answer.{Answer}
+use Rattle.trdp_md.specs.declared.answers.RequestAnswer.{RequestAnswer}
 use Rattle.trdp_md.specs.declared.caller.Caller.{Caller}
 use Rattle.trdp_md.specs.declared.terms.CallerTerms.{CallerTerms}
 use Rattle.trdp_md.specs.Answers.{is_place, has_answered}
@@ -122,7 +122,7 @@ once c src dst telegram has is =
 
 -- answers that are added leave those that were there
 has_answered-more :
-    (answers more : List Answer) (place : Place) → has_answered answers place ≡ true
+    (answers more : List RequestAnswer) (place : Place) → has_answered answers place ≡ true
     → has_answered (answers ++ more) place ≡ true
 unfolding has_answered
 has_answered-more answers more place has =
@@ -137,7 +137,7 @@ or-true false = refl
 
 -- an answer that is added is there
 has_answered-added :
-    (answers : List Answer) (src : Place) (head : MdHead)
+    (answers : List RequestAnswer) (src : Place) (head : MdHead)
     → has_answered (answers ++ answer_of src head ∷ []) src ≡ true
 unfolding has_answered
 has_answered-added answers src head =

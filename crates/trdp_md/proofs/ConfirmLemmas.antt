@@ -19,7 +19,7 @@ use Rattle.trdp_pd.specs.declared.object.Reason.TheVariants.{NotConfirmed}
 use Rattle.trdp_pd.specs.declared.object.Taken.TheVariants.{Nothing as NotTaken}
 use Rattle.trdp_pd.specs.declared.object.Taken.TheVariants.{Replied, RepliedLast}
 use Rattle.trdp_pd.specs.declared.object.Fired.TheVariants.{Closed}
-use Rattle.trdp_md.specs.declared.answers.Answer.{Answer}
+use Rattle.trdp_md.specs.declared.answers.RequestAnswer.{RequestAnswer}
 use Rattle.trdp_md.specs.declared.caller.Caller.{Caller}
 use Rattle.trdp_md.specs.Answers.{is_place, awaits, awaits_any, confirmed, confirmed_if}
 use Rattle.trdp_md.specs.Callers.{caller_taking, caller_firing, is_accepted_answer, is_complete}
@@ -40,12 +40,13 @@ terms-confirming c place = either (awaits c.answers place) refl
     either false is = rw is refl
 
 -- only a query may await a confirmation
-abbrev pub OwesAsQuery : Answer → Type 0
+abbrev pub OwesAsQuery : RequestAnswer → Type 0
 OwesAsQuery answer = answer.confirm_owed ≡ true → answer.kind ≡ Query
 
 -- a confirmation adds nothing that awaits one
 sound-confirmed :
-    (place : Place) (answer : Answer) → OwesAsQuery answer → OwesAsQuery (confirmed_if place answer)
+    (place : Place) (answer : RequestAnswer) → OwesAsQuery answer
+    → OwesAsQuery (confirmed_if place answer)
 sound-confirmed place answer sound = either (is_place answer.place place) refl
   where
     either : (b : Bool) → is_place answer.place place ≡ b → OwesAsQuery (confirmed_if place answer)
@@ -98,7 +99,7 @@ HasAwaiting-awaits c place is =
 
 -- a place that was confirmed awaits nothing
 awaits-confirmed :
-    (answers : List Answer) (place : Place)
+    (answers : List RequestAnswer) (place : Place)
     → list_any
     (λ answer. is_place answer.place place && answer.confirm_owed)
     (map (confirmed_if place) answers)
@@ -122,7 +123,7 @@ awaits-confirmed (answer ∷ rest) place =
 
 -- the same for the test
 none-confirmed :
-    (answers : List Answer) (place : Place) → awaits (confirmed answers place) place ≡ false
+    (answers : List RequestAnswer) (place : Place) → awaits (confirmed answers place) place ≡ false
 unfolding awaits confirmed
 none-confirmed answers place = awaits-confirmed answers place
 

@@ -7,7 +7,7 @@ use Rattle.trdp_head.specs.declared.md.MdHead.{MdHead}
 use Rattle.trdp_filter.specs.declared.globals.Globals.{Globals}
 use Rattle.trdp_filter.specs.Counts.{topo_valid}
 use Rattle.trdp_pd.specs.declared.object.Fired.TheVariants.{Again}
-use Rattle.trdp_md.specs.declared.answers.Answer.{Answer}
+use Rattle.trdp_md.specs.declared.answers.RequestAnswer.{RequestAnswer}
 use Rattle.trdp_md.specs.declared.caller.Caller.{Caller}
 use Rattle.trdp_md.specs.Callers.{caller_firing, is_repeating, repeating}
 
@@ -20,7 +20,7 @@ repeats c globals head fired = either (is_repeating c) refl
     either true is = is
     either false is = let h = rw is at fired in absurd (cc)
 
-none_of : (answers : List Answer) → length answers ≡ 0 → answers ≡ []
+none_of : (answers : List RequestAnswer) → length answers ≡ 0 → answers ≡ []
 none_of [] none = refl
 none_of (answer ∷ answers) none = absurd (omega (arith, none))
 

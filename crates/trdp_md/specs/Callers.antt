@@ -20,7 +20,7 @@ use Rattle.trdp_pd.specs.declared.object.Taken.TheVariants.{Replied, RepliedLast
 use Rattle.trdp_pd.specs.declared.object.Fired.TheVariants.{Nothing as NotFired, Again, Closed}
 use Rattle.trdp_pd.specs.Publishers.{next_counter}
 use Rattle.trdp_pd.specs.Effects.{Reception, Firing}
-use Rattle.trdp_md.specs.declared.answers.Answer.{Answer}
+use Rattle.trdp_md.specs.declared.answers.RequestAnswer.{RequestAnswer}
 use Rattle.trdp_md.specs.declared.caller.Caller.{Caller}
 use Rattle.trdp_md.specs.declared.terms.CallerTerms.{CallerTerms}
 use Rattle.trdp_md.specs.Answers.{has_answered, awaits, awaits_any, confirmed}
@@ -108,7 +108,7 @@ is_accepted_answer c src head =
     is_for_caller c head && has_place c && not (has_answered c.answers src)
 
 -- the answer that a message is
-abbrev pub answer_of : Place → MdHead → Answer
+abbrev pub answer_of : Place → MdHead → RequestAnswer
 answer_of src head =
     record { place = src; kind = head.kind; confirm_owed = is_query head.kind }
 

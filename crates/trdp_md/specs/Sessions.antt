@@ -9,7 +9,7 @@ use Rattle.trdp_filter.specs.Counts.{topo_valid}
 use Rattle.trdp_filter.specs.Telegrams.{TelegramModel, PdIs, MdIs}
 use Rattle.trdp_pd.specs.declared.object.Taken.{Taken}
 use Rattle.trdp_pd.specs.declared.object.Taken.TheVariants.{Replied, RepliedLast}
-use Rattle.trdp_md.specs.declared.answers.Answer.{Answer}
+use Rattle.trdp_md.specs.declared.answers.RequestAnswer.{RequestAnswer}
 use Rattle.trdp_md.specs.declared.caller.Caller.{Caller}
 use Rattle.trdp_md.specs.declared.replier.Replier.{Replier}
 use Rattle.trdp_md.specs.declared.replier.Stage.TheVariants.{AwaitConfirm}
@@ -32,22 +32,22 @@ HasAdded c (MdIs src dst telegram) after =
     after.answers ≡ c.answers ++ answer_of src telegram.head ∷ []
 
 -- only queries await a confirmation
-abbrev pub AwaitsQueriesOnly : List Answer → Type 0
+abbrev pub AwaitsQueriesOnly : List RequestAnswer → Type 0
 AwaitsQueriesOnly answers = All (λ answer. answer.confirm_owed ≡ true → answer.kind ≡ Query) answers
 
 -- one of the answers came from the place and awaits a confirmation
-abbrev pub HasAwaiting : List Answer → Place → Type 0
+abbrev pub HasAwaiting : List RequestAnswer → Place → Type 0
 HasAwaiting answers place =
     Any (λ answer. (answer.place ≡ place) × (answer.confirm_owed ≡ true)) answers
 
 -- none of the answers is from the place
-abbrev pub IsApart : Place → List Answer → Type 0
+abbrev pub IsApart : Place → List RequestAnswer → Type 0
 IsApart place [] = Unit {0}
 IsApart place (answer ∷ answers) =
     (is_place answer.place place ≡ false) × IsApart place answers
 
 -- no two of the answers are from one place
-abbrev pub AreApart : List Answer → Type 0
+abbrev pub AreApart : List RequestAnswer → Type 0
 AreApart [] = Unit {0}
 AreApart (answer ∷ answers) = IsApart answer.place answers × AreApart answers
 
@@ -56,7 +56,7 @@ abbrev pub IsAnswerKind : MdKind → Type 0
 IsAnswerKind kind = (kind ≡ Reply) ⊎ ((kind ≡ Query) ⊎ (kind ≡ Error))
 
 -- one by one the same answers, but that those of the place await no confirmation any more
-abbrev pub SettlesAt : Place → List Answer → List Answer → Type 0
+abbrev pub SettlesAt : Place → List RequestAnswer → List RequestAnswer → Type 0
 SettlesAt place [] [] = Unit {0}
 SettlesAt place (answer ∷ before) (then_answer ∷ after) =
     (then_answer.place ≡ answer.place) × (then_answer.kind ≡ answer.kind)

@@ -13,7 +13,7 @@ use trdp_head::MdKind;
 pub const PLACES_MAX: usize = 8;
 
 /// The entry where no answer is.
-const NO_ANSWER: Answer = Answer {
+const NO_ANSWER: RequestAnswer = RequestAnswer {
     place: Place { ip: Ip(0), port: 0 },
     kind: MdKind::Reply,
     confirm_owed: false,
@@ -21,7 +21,7 @@ const NO_ANSWER: Answer = Answer {
 
 /// An answer to a request.
 #[derive(Clone, Copy, Debug, PartialEq, Eq)]
-pub struct Answer {
+pub struct RequestAnswer {
     /// The address and port that it came from.
     pub place: Place,
     /// Its message type: a reply, a query or an error.
@@ -34,16 +34,16 @@ pub struct Answer {
 #[derive(Drop)]
 pub struct Answers {
     /// The answers, and after them entries without meaning.
-    room: [Answer; PLACES_MAX],
+    room: [RequestAnswer; PLACES_MAX],
     /// How many answers there are, 0 to [`PLACES_MAX`].
     count: usize,
 }
 
 impl Model for Answers {
     ghost use Rattle.std.specs.Prelude.{◌≤◌, List, take};
-    ghost use Rattle.trdp_md.specs.declared.answers.Answer.{Answer};
+    ghost use Rattle.trdp_md.specs.declared.answers.RequestAnswer.{RequestAnswer};
 
-    ghost Value = { List Answer };
+    ghost Value = { List RequestAnswer };
 
     ghost view = { λ a. take a.count a.room };
 
@@ -52,7 +52,7 @@ impl Model for Answers {
 
 /// Whether an answer came from the place.
 #[tactic(auto, unfolding(crate::specs::Answers::has_answered))]
-pub fn has_answered(answers: &[Answer], place: Place) -> bool
+pub fn has_answered(answers: &[RequestAnswer], place: Place) -> bool
     ensures { result ≡ has_answered answers.now place }
 {
     answers.iter().any(|answer| answer.place == place)
@@ -60,7 +60,7 @@ pub fn has_answered(answers: &[Answer], place: Place) -> bool
 
 /// Whether an answer from the place awaits a confirmation.
 #[tactic(auto, unfolding(crate::specs::Answers::awaits))]
-pub fn awaits(answers: &[Answer], place: Place) -> bool
+pub fn awaits(answers: &[RequestAnswer], place: Place) -> bool
     ensures { result ≡ awaits answers.now place }
 {
     answers
@@ -70,18 +70,18 @@ pub fn awaits(answers: &[Answer], place: Place) -> bool
 
 /// Whether any answer awaits a confirmation.
 #[tactic(auto, unfolding(crate::specs::Answers::awaits_any))]
-pub fn awaits_any(answers: &[Answer]) -> bool
+pub fn awaits_any(answers: &[RequestAnswer]) -> bool
     ensures { result ≡ awaits_any answers.now }
 {
     answers.iter().any(|answer| answer.confirm_owed)
 }
 
 /// The answer once the place is confirmed.
-fn confirmed_if(answer: Answer, place: Place) -> Answer
+fn confirmed_if(answer: RequestAnswer, place: Place) -> RequestAnswer
     ensures { result ≡ confirmed_if place answer }
 {
     if answer.place == place {
-        Answer {
+        RequestAnswer {
             confirm_owed: false,
             ..answer
         }
@@ -92,7 +92,7 @@ fn confirmed_if(answer: Answer, place: Place) -> Answer
 
 /// Marks the answers from the place as confirmed.
 #[tactic(auto, unfolding(crate::specs::Answers::confirmed))]
-fn end_awaiting(answers: &mut [Answer], place: Place)
+fn end_awaiting(answers: &mut [RequestAnswer], place: Place)
     ensures { answers.new ≡ confirmed answers.old place }
 {
     for answer in answers.iter_mut() {
@@ -112,7 +112,7 @@ impl Answers {
     }
 
     /// The answers.
-    pub fn as_slice(&self) -> &[Answer]
+    pub fn as_slice(&self) -> &[RequestAnswer]
         ensures value { result.now ≡ self.now }
         ensures within { length result.now ≤ 8 }
     {
@@ -120,7 +120,7 @@ impl Answers {
     }
 
     /// Adds an answer after the others.
-    pub fn add(&mut self, answer: Answer)
+    pub fn add(&mut self, answer: RequestAnswer)
         requires { length self.old < 8 }
         ensures { self.new ≡ self.old ++ answer ∷ [] }
     {

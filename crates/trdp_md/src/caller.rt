@@ -20,9 +20,9 @@ ghost use Rattle.trdp_md.specs.Callers.{deadline_after};
 ghost use Rattle.trdp_md.specs.Callers.{answering, is_complete, answer_taken, reason_of};
 ghost use Rattle.trdp_md.specs.Callers.{confirming};
 ghost use Rattle.trdp_md.specs.Callers.{closed_of, is_repeating, repeating};
-ghost use Rattle.trdp_head.specs.Limits.{md_payload_limit};
+ghost use Rattle.trdp_base.specs.Limits.{md_payload_limit};
 
-use crate::answers::{self, Answer, Answers, PLACES_MAX};
+use crate::answers::{self, Answers, PLACES_MAX, RequestAnswer};
 use crate::payload::Payload;
 use crate::terms::CallerTerms;
 use crate::waiting::reply_by;
@@ -157,7 +157,7 @@ impl Caller {
 
     /// The answers that it accepted, each from a place of its own, in the order in which they
     /// came.
-    pub fn answers(&self) -> &[Answer]
+    pub fn answers(&self) -> &[RequestAnswer]
         ensures value { result.now ≡ self.now.answers }
         ensures within { length result.now ≤ 8 }
     {
@@ -269,7 +269,7 @@ impl Caller {
         ensures state { self.new ≡ answering self.old src head.now now }
         ensures outcome { result ≡ answer_taken (answering self.old src head.now now) }
     {
-        self.answers.add(Answer {
+        self.answers.add(RequestAnswer {
             place: src,
             kind: head.kind,
             confirm_owed: is_query(head.kind),

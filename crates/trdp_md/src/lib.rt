@@ -31,7 +31,7 @@ mod replier;
 mod terms;
 mod waiting;
 
-pub use answers::Answer;
+pub use answers::RequestAnswer;
 pub use caller::{Caller, request_head};
 pub use laws::{
     caller_accepts_its_session, caller_answers_stay_apart, caller_awaits_queries_only,

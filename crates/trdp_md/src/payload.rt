@@ -1,7 +1,7 @@
 //! The payload of a request.
 
 ghost use Rattle.std.specs.Prelude.{◌≡◌, ◌≤◌, length, IfOk};
-ghost use Rattle.trdp_head.specs.Limits.{md_payload_limit};
+ghost use Rattle.trdp_base.specs.Limits.{md_payload_limit};
 
 use std::alloc::{AllocError, Global};
 use std::marker::Model;
@@ -15,7 +15,7 @@ pub struct Payload {
 
 impl Model for Payload {
     ghost use Rattle.std.specs.Prelude.{◌≤◌, ℕ, List, length};
-    ghost use Rattle.trdp_head.specs.Limits.{md_payload_limit};
+    ghost use Rattle.trdp_base.specs.Limits.{md_payload_limit};
 
     ghost Value = { List ℕ };
 

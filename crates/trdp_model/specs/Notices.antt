@@ -15,7 +15,7 @@ use Rattle.trdp_model.specs.declared.fault.Refusal.{Refusal}
 use Rattle.trdp_model.specs.declared.fault.Refusal.TheVariants.{State, TooLong}
 use Rattle.trdp_model.specs.declared.record.Protocol.TheVariants.{Md}
 use Rattle.trdp_model.specs.Records.{Content, MessageModel, Indicates, NotifiedIs, Sends}
-use Rattle.trdp_head.specs.Limits.{md_payload_limit}
+use Rattle.trdp_base.specs.Limits.{md_payload_limit}
 
 -- a message as a listener's slot gets it
 abbrev pub message_of : Place → MdTelegram → MessageModel

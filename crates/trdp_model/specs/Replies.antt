@@ -26,7 +26,7 @@ use Rattle.trdp_model.specs.declared.record.Protocol.TheVariants.{Md}
 use Rattle.trdp_model.specs.Records.{Content, DoneIs, Answers, ReplyModel, RepliedIs, ClosedIs}
 use Rattle.trdp_model.specs.Records.{Indicates, Sends}
 use Rattle.trdp_model.specs.Acts.{Act, refuses}
-use Rattle.trdp_head.specs.Limits.{md_payload_limit}
+use Rattle.trdp_base.specs.Limits.{md_payload_limit}
 
 -- an answer as its caller's slot gets it
 abbrev pub reply_of : Place → MdTelegram → ReplyModel

@@ -26,7 +26,7 @@ use Rattle.trdp_model.specs.Records.{Content, Indicates, AskedIs, OverrunIs, Sen
 use Rattle.trdp_model.specs.Slots.{Entry, SlotState, Outcome, unchanged, with_new_object}
 use Rattle.trdp_model.specs.Openings.{opening_refusal}
 use Rattle.trdp_model.specs.Notices.{message_of}
-use Rattle.trdp_head.specs.Limits.{md_payload_limit}
+use Rattle.trdp_base.specs.Limits.{md_payload_limit}
 
 -- the object is a caller or a replier of that session
 abbrev pub is_of_session : SessionId → AnyObject → Bool

@@ -1,6 +1,6 @@
 //! The bytes that an event carries.
 
-ghost use Rattle.std.specs.Prelude.{◌≡◌, option_map};
+ghost use Rattle.std.specs.Prelude.{◌≡◌, None, option_map};
 ghost use Rattle.trdp_model.specs.CarriedBytes.{call_bytes, call_with_bytes};
 ghost use Rattle.trdp_model.specs.CarriedBytes.{event_bytes, event_with_bytes};
 ghost use Rattle.trdp_model.specs.Events.{call_model, event_model};
@@ -60,23 +60,12 @@ impl<'a> Call<'a> {
         }
     }
 
-    /// The call with these bytes in place of its own; as it is, where it carries none. Each arm
-    /// makes a new call, since the two borrow for different times.
+    /// The call with these bytes in place of its own; as it is, where it carries none.
     fn with_bytes<'b>(&self, bytes: &'b [u8]) -> Call<'b>
         ensures { call_model result ≡ call_with_bytes bytes.now (call_model self.now) }
     {
         match *self {
-            Call::Publish(terms) => Call::Publish(terms),
             Call::Put { handle, .. } => Call::Put { handle, bytes },
-            Call::Unpublish { handle } => Call::Unpublish { handle },
-            Call::Subscribe(terms) => Call::Subscribe(terms),
-            Call::Get { handle } => Call::Get { handle },
-            Call::Unsubscribe { handle } => Call::Unsubscribe { handle },
-            Call::OpenPull(terms) => Call::OpenPull(terms),
-            Call::Pull { handle } => Call::Pull { handle },
-            Call::ClosePull { handle } => Call::ClosePull { handle },
-            Call::Listen(filter) => Call::Listen(filter),
-            Call::Unlisten { handle } => Call::Unlisten { handle },
             Call::Notify { terms, .. } => Call::Notify {
                 terms,
                 payload: bytes,
@@ -109,6 +98,27 @@ impl<'a> Call<'a> {
                 timeout,
                 payload: bytes,
             },
+            _ => self.without_bytes(),
+        }
+    }
+
+    /// The same call, which carries no bytes. Each arm makes it anew, since the two borrow for
+    /// different times.
+    fn without_bytes<'b>(&self) -> Call<'b>
+        requires { call_bytes (call_model self.now) ≡ None }
+        ensures { call_model result ≡ call_model self.now }
+    {
+        match *self {
+            Call::Publish(terms) => Call::Publish(terms),
+            Call::Unpublish { handle } => Call::Unpublish { handle },
+            Call::Subscribe(terms) => Call::Subscribe(terms),
+            Call::Get { handle } => Call::Get { handle },
+            Call::Unsubscribe { handle } => Call::Unsubscribe { handle },
+            Call::OpenPull(terms) => Call::OpenPull(terms),
+            Call::Pull { handle } => Call::Pull { handle },
+            Call::ClosePull { handle } => Call::ClosePull { handle },
+            Call::Listen(filter) => Call::Listen(filter),
+            Call::Unlisten { handle } => Call::Unlisten { handle },
             Call::ReplyError {
                 handle,
                 com_id,
@@ -129,6 +139,11 @@ impl<'a> Call<'a> {
             },
             Call::Abort { handle } => Call::Abort { handle },
             Call::Reset => Call::Reset,
+            Call::Put { .. }
+            | Call::Notify { .. }
+            | Call::Request { .. }
+            | Call::Reply { .. }
+            | Call::Query { .. } => unreachable!(),
         }
     }
 }

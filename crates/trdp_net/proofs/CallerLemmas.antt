@@ -12,7 +12,7 @@ use Rattle.trdp_base.specs.declared.session.SessionId.{SessionId}
 use Rattle.trdp_head.specs.declared.md.MdKind.{MdKind}
 use Rattle.trdp_head.specs.declared.md.MdKind.TheVariants as message
 use Rattle.trdp_head.specs.MdTelegrams.{MdTelegram}
-use Rattle.trdp_md.specs.declared.answers.Answer.{Answer}
+use Rattle.trdp_md.specs.declared.answers.RequestAnswer.{RequestAnswer}
 use Rattle.trdp_md.specs.declared.caller.Caller.{Caller as AnyCaller}
 use Rattle.trdp_md.specs.declared.terms.CallerTerms.{CallerTerms}
 use Rattle.trdp_md.specs.Answers.{is_place, has_answered, awaits, awaits_any}
@@ -54,7 +54,7 @@ query_owes kind is none =
 
 -- where none awaits a confirmation, all are settled
 settled : (past : List Move) (at : Spot) (session : SessionId) (home : Place)
-    (answers : List Answer) → awaits_any answers ≡ false
+    (answers : List RequestAnswer) → awaits_any answers ≡ false
     → Each (AnswerKept past at session home) answers
     → Each (IsSettled past at session home) answers
 unfolding awaits_any
@@ -69,7 +69,7 @@ settled past at session home (a ∷ answers) none kept = (
 
 -- the answer that awaits a confirmation is a query
 pub asked_there : (past : List Move) (at : Spot) (session : SessionId) (home place : Place)
-    (answers : List Answer) → Each (AnswerKept past at session home) answers
+    (answers : List RequestAnswer) → Each (AnswerKept past at session home) answers
     → awaits answers place ≡ true → Ever (IsReplied at session place message.Query) past
 unfolding awaits
 asked_there past at session home place [] kept is = absurd (cc)
@@ -94,7 +94,7 @@ asked_there past at session home place (a ∷ answers) kept is =
 
 -- the answers of the place that this move confirms
 pub answers_confirmed : (past : List Move) (m : Move) (at : Spot) (session : SessionId)
-    (home place : Place) (answers : List Answer) → IsConfirmedAs at session home place m past
+    (home place : Place) (answers : List RequestAnswer) → IsConfirmedAs at session home place m past
     → Each (AnswerKept past at session home) answers
     → Each (AnswerKept (m ∷ past) at session home) (map (confirmed_if place) answers)
 answers_confirmed past m at session home place [] made kept = tt
@@ -116,7 +116,7 @@ answers_confirmed past m at session home place (a ∷ answers) made kept = (
     one false is = answer_later past m at session home a kept.0
 
 -- a confirmation adds no place
-pub answered_before : (place p : Place) (all : List Answer)
+pub answered_before : (place p : Place) (all : List RequestAnswer)
     → has_answered (map (confirmed_if place) all) p ≡ false → has_answered all p ≡ false
 unfolding has_answered
 answered_before place p [] none = refl
@@ -129,7 +129,7 @@ answered_before place p (a ∷ all) none =
     both false y is later = later is
 
     either : (b : Bool)
-        → (is_place (let c : Answer = (if b then record a { confirm_owed = false } else a) in
+        → (is_place (let c : RequestAnswer = (if b then record a { confirm_owed = false } else a) in
         c).place
         p || has_answered (map (confirmed_if place) all) p) ≡ false
         → (has_answered (map (confirmed_if place) all) p ≡ false → has_answered all p ≡ false)
@@ -138,7 +138,7 @@ answered_before place p (a ∷ all) none =
     either false is later = both (is_place a.place p) _ is later
 
 -- a place that hasn't answered didn't do so before the last answer, nor by it
-pub answered_push : (all : List Answer) (a : Answer) (p : Place)
+pub answered_push : (all : List RequestAnswer) (a : RequestAnswer) (p : Place)
     → has_answered (all ++ a ∷ []) p ≡ false
     → (has_answered all p ≡ false) × (is_place a.place p ≡ false)
 unfolding has_answered
@@ -154,7 +154,8 @@ answered_push (b ∷ all) a p none =
     both false y is_x is_y = is_y
 
 -- the place of the last answer has answered
-pub answered_last : (all : List Answer) (a : Answer) → has_answered (all ++ a ∷ []) a.place ≡ true
+pub answered_last : (all : List RequestAnswer) (a : RequestAnswer)
+    → has_answered (all ++ a ∷ []) a.place ≡ true
 answered_last all a = either (has_answered (all ++ a ∷ []) a.place) refl
   where
     either : (b : Bool) → has_answered (all ++ a ∷ []) a.place ≡ b

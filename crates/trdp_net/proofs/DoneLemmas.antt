@@ -10,7 +10,7 @@ use Rattle.trdp_base.specs.declared.place.Place.{Place}
 use Rattle.trdp_dataset.specs.Configs.{ConfigModel}
 use Rattle.trdp_head.specs.declared.md.MdKind.TheVariants as message
 use Rattle.trdp_pd.specs.declared.object.Reason.TheVariants.{Done}
-use Rattle.trdp_md.specs.declared.answers.Answer.{Answer}
+use Rattle.trdp_md.specs.declared.answers.RequestAnswer.{RequestAnswer}
 use Rattle.trdp_md.specs.Answers.{is_place, has_answered}
 use Rattle.trdp_md.proofs.ConfirmLemmas.{place-is_place}
 use Rattle.trdp_model.specs.declared.any_object.AnyObject.TheVariants.{Caller}
@@ -31,8 +31,8 @@ use Rattle.trdp_net.proofs.PromiseLemmas.{told_by}
 use Rattle.trdp_net.proofs.ToldLemmas.{new_or_in, distinct_rest, ever_place, one_answer, told_of_it}
 
 -- the answer of a place that has answered
-answer_there : (answers : List Answer) (place : Place) → has_answered answers place ≡ true
-    → (a : Answer) × In a answers × (a.place ≡ place)
+answer_there : (answers : List RequestAnswer) (place : Place) → has_answered answers place ≡ true
+    → (a : RequestAnswer) × In a answers × (a.place ≡ place)
 unfolding has_answered
 answer_there [] place is = absurd (cc)
 answer_there (a ∷ answers) place is =
@@ -42,8 +42,8 @@ answer_there (a ∷ answers) place is =
     rest = list_any (λ answer. is_place answer.place place) answers
 
     here : (b : Bool) → is_place a.place place ≡ b → (b || rest) ≡ true
-        → (rest ≡ true → (x : Answer) × In x answers × (x.place ≡ place))
-        → (x : Answer) × In x (a ∷ answers) × (x.place ≡ place)
+        → (rest ≡ true → (x : RequestAnswer) × In x answers × (x.place ≡ place))
+        → (x : RequestAnswer) × In x (a ∷ answers) × (x.place ≡ place)
     here true same found later = (a, inl refl, place-is_place a.place place same)
     here false same found later =
         let there = later found in (there.0, inr there.1, there.2)

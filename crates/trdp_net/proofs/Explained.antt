@@ -12,7 +12,7 @@ use Rattle.trdp_head.specs.PdTelegrams.{PdTelegram, pd_telegram_of}
 use Rattle.trdp_head.specs.MdTelegrams.{MdTelegram, md_telegram_of}
 use Rattle.trdp_pd.specs.declared.object.Reason.{Reason}
 use Rattle.trdp_pd.specs.declared.object.Reason.TheVariants.{Done}
-use Rattle.trdp_md.specs.declared.answers.Answer.{Answer}
+use Rattle.trdp_md.specs.declared.answers.RequestAnswer.{RequestAnswer}
 use Rattle.trdp_md.specs.declared.caller.Caller.{Caller as AnyCaller}
 use Rattle.trdp_md.specs.Answers.{has_answered}
 use Rattle.trdp_md.specs.Sessions.{AreApart}
@@ -81,7 +81,7 @@ pub record RepliedBy (past : List Move) (m : Move) (at : Spot) (answer : ReplyMo
 pub record DoneBy (past : List Move) (m : Move) (at : Spot) : Type 0 where
   pub c : AnyCaller
   pub held : Held at (Caller c) m
-  pub answers : List Answer
+  pub answers : List RequestAnswer
   pub enough : c.terms.expected ≤ length answers
   pub some : 0 < length answers
   pub apart : AreApart answers

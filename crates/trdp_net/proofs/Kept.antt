@@ -12,7 +12,7 @@ use Rattle.trdp_head.specs.declared.md.MdKind.TheVariants as message
 use Rattle.trdp_head.specs.PdTelegrams.{PdTelegram}
 use Rattle.trdp_head.specs.MdTelegrams.{MdTelegram}
 use Rattle.trdp_pd.specs.declared.terms.ValueState.TheVariants.{Valid}
-use Rattle.trdp_md.specs.declared.answers.Answer.{Answer}
+use Rattle.trdp_md.specs.declared.answers.RequestAnswer.{RequestAnswer}
 use Rattle.trdp_md.specs.declared.terms.CallerTerms.{CallerTerms}
 use Rattle.trdp_md.specs.declared.caller.Caller.{Caller as AnyCaller}
 use Rattle.trdp_md.specs.declared.replier.Replier.{Replier as AnyReplier}
@@ -57,7 +57,7 @@ ValueKept past com_id (Some bytes) = WasPut past com_id bytes
 
 -- one answer of a caller
 pub record AnswerKept (past : List Move) (at : Spot) (session : SessionId) (home : Place)
-    (a : Answer) : Type 0 where
+    (a : RequestAnswer) : Type 0 where
   pub replied : Ever (IsReplied at session a.place a.kind) past
   pub owes : a.confirm_owed ≡ true → a.kind ≡ message.Query
   pub confirmed : a.kind ≡ message.Query → a.confirm_owed ≡ false
@@ -101,7 +101,8 @@ value_later past m com_id (Some bytes) h = record { put = inr h.put; limit = h.l
 
 -- the same of an answer
 pub answer_later : (past : List Move) (m : Move) (at : Spot) (session : SessionId) (home : Place)
-    (a : Answer) → AnswerKept past at session home a → AnswerKept (m ∷ past) at session home a
+    (a : RequestAnswer) → AnswerKept past at session home a
+    → AnswerKept (m ∷ past) at session home a
 answer_later past m at session home a h = record {
   replied = inr h.replied;
   owes = h.owes;
@@ -110,7 +111,7 @@ answer_later past m at session home a h = record {
 
 -- the same of all answers
 pub answers_later : (past : List Move) (m : Move) (at : Spot) (session : SessionId) (home : Place)
-    (answers : List Answer) → Each (AnswerKept past at session home) answers
+    (answers : List RequestAnswer) → Each (AnswerKept past at session home) answers
     → Each (AnswerKept (m ∷ past) at session home) answers
 answers_later past m at session home answers h =
     each_map (AnswerKept past at session home) (AnswerKept (m ∷ past) at session home) answers

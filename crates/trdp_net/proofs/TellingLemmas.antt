@@ -20,7 +20,7 @@ use Rattle.trdp_net.specs.Networks.{Sent, place_of, sends_of, sent_by}
 use Rattle.trdp_net.specs.Tellings.{place_at, IsOwnHome, sends_from, sent_in_slot, sent_in_slots}
 use Rattle.trdp_net.specs.Tellings.{sent_in, all_sent, latest, sought_past, SoughtIn}
 use Rattle.trdp_net.specs.declared.told.Home.{Home}
-use Rattle.trdp_net.specs.declared.told.Sought.{Sought}
+use Rattle.trdp_net.specs.declared.told.TelegramSearch.{TelegramSearch}
 use Rattle.trdp_net.specs.declared.told.Told.{Told}
 
 -- what is left from a number on begins with the element of that number
@@ -36,7 +36,7 @@ Remains all which rest left =
     (more : List Sent) → slice_get (all ++ more) which ≡ slice_get (rest ++ more) left
 
 -- the result of a search through the first of the rest
-pub went : (all whole first rest : List Sent) (which left : ℕ) (sought : Sought)
+pub went : (all whole first rest : List Sent) (which left : ℕ) (sought : TelegramSearch)
     → Remains all which whole left → whole ≡ first ++ rest → SoughtIn first left sought
     → (more : List Sent) → slice_get (all ++ more) which ≡ sought_past sought (rest ++ more)
 went all whole first rest which left sought remains split is more =

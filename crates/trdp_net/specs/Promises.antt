@@ -8,7 +8,7 @@ use Rattle.trdp_head.specs.declared.md.MdKind.TheVariants as message
 use Rattle.trdp_pd.specs.declared.object.Reason.TheVariants.{Done}
 use Rattle.trdp_pd.specs.declared.terms.ValueState.TheVariants.{Valid}
 use Rattle.trdp_pd.specs.Subscriptions.{SubscriptionState}
-use Rattle.trdp_md.specs.declared.answers.Answer.{Answer}
+use Rattle.trdp_md.specs.declared.answers.RequestAnswer.{RequestAnswer}
 use Rattle.trdp_md.specs.declared.caller.Caller.{Caller as AnyCaller}
 use Rattle.trdp_md.specs.declared.replier.Replier.{Replier as AnyReplier}
 use Rattle.trdp_md.specs.Answers.{is_place}
@@ -84,7 +84,7 @@ ConfirmsAreMade m past =
 
 -- an answer that was reported to the caller, and that it confirmed if it was a query
 pub record IsSettled (past : List Move) (at : Spot) (session : SessionId) (home : Place)
-    (a : Answer) : Type 0 where
+    (a : RequestAnswer) : Type 0 where
   pub replied : Ever (IsReplied at session a.place a.kind) past
   pub confirmed : a.kind ≡ message.Query → Ever (IsConfirmedAs at session home a.place) past
 
@@ -98,7 +98,7 @@ IsToldOf at answer m past = Gives at.node at.slot (Indicates (RepliedIs at.handl
 pub record IsDoneDue (m : Move) (past : List Move) (at : Spot) : Type 0 where
   pub c : AnyCaller
   pub held : Held at (Caller c) m
-  pub answers : List Answer
+  pub answers : List RequestAnswer
   pub enough : c.terms.expected ≤ length answers
   pub some : 0 < length answers
   pub apart : AreApart answers

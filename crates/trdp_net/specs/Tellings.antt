@@ -8,8 +8,8 @@ use Rattle.trdp_model.specs.Records.{Content, RecordModel, Answers, Indicates, S
 use Rattle.trdp_net.specs.Networks.{Sent, place_of}
 use Rattle.trdp_net.specs.declared.told.Home.{Home}
 use Rattle.trdp_net.specs.declared.told.Sent.{Sent as AnySent}
-use Rattle.trdp_net.specs.declared.told.Sought.{Sought}
-use Rattle.trdp_net.specs.declared.told.Sought.TheVariants.{Found, Left}
+use Rattle.trdp_net.specs.declared.told.TelegramSearch.{TelegramSearch}
+use Rattle.trdp_net.specs.declared.told.TelegramSearch.TheVariants.{Found, Left}
 use Rattle.trdp_net.specs.declared.told.Told.{Told}
 
 -- the place for telegrams of that protocol
@@ -60,11 +60,11 @@ latest (told ∷ []) = told.out.records
 latest (told ∷ next ∷ rest) = latest (next ∷ rest)
 
 -- the telegram that was found, or else the one of the number that is left
-abbrev pub sought_past : Sought → List Sent → Option Sent
+abbrev pub sought_past : TelegramSearch → List Sent → Option Sent
 sought_past (Found x) more = Some (sent_model x)
 sought_past (Left n) more = slice_get more n
 
 -- it is the result of a search for number `which`, whatever telegrams come after these
-abbrev pub SoughtIn : List Sent → ℕ → Sought → Type 0
+abbrev pub SoughtIn : List Sent → ℕ → TelegramSearch → Type 0
 SoughtIn sent which sought =
     (more : List Sent) → slice_get (sent ++ more) which ≡ sought_past sought more

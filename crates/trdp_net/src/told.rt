@@ -62,7 +62,7 @@ pub struct Sent<'a> {
 
 /// The result of a search through telegrams.
 #[derive(Clone, Copy)]
-pub(crate) enum Sought<'a> {
+pub(crate) enum TelegramSearch<'a> {
     /// It is among them.
     Found(Sent<'a>),
     /// It isn't, and this is its number among those that come after them.
@@ -98,70 +98,81 @@ fn telegram_of<'a>(entry: &Record<'a>, home: &Home) -> Option<Sent<'a>>
 }
 
 /// Looks for the telegram of that number where there is at most one.
-fn seek_one<'a>(sent: Option<Sent<'a>>, which: usize) -> Sought<'a>
+fn seek_one<'a>(sent: Option<Sent<'a>>, which: usize) -> TelegramSearch<'a>
     ensures { SoughtIn (option_to_list (option_map sent_model sent.entry)) which result }
 {
     match sent {
-        None => Sought::Left(which),
+        None => TelegramSearch::Left(which),
         Some(sent) => {
             if which == 0 {
-                Sought::Found(sent)
+                TelegramSearch::Found(sent)
             } else {
-                Sought::Left(which - 1)
+                TelegramSearch::Left(which - 1)
             }
         }
     }
 }
 
 /// Looks for the telegram of that number in one record.
-fn seek_in_record<'a>(entry: &Record<'a>, slot: usize, home: &Home, which: usize) -> Sought<'a>
+fn seek_in_record<'a>(
+    entry: &Record<'a>,
+    slot: usize,
+    home: &Home,
+    which: usize,
+) -> TelegramSearch<'a>
     ensures { SoughtIn (sent_in_slot home.now slot (record_model entry.now ∷ [])) which result }
 {
     if usize::from(entry.slot) == slot {
         seek_one(telegram_of(entry, home), which)
     } else {
-        Sought::Left(which)
+        TelegramSearch::Left(which)
     }
 }
 
 /// Looks for the telegram of that number in the i-th record, if there is one.
-fn seek_at<'a>(out: &'a Outbox, i: usize, slot: usize, home: &Home, which: usize) -> Sought<'a>
+fn seek_at<'a>(
+    out: &'a Outbox,
+    i: usize,
+    slot: usize,
+    home: &Home,
+    which: usize,
+) -> TelegramSearch<'a>
     ensures { SoughtIn
         (sent_in_slot home.now slot (option_to_list (slice_get out.now.records i))) which result }
 {
     match out.get(i) {
-        None => Sought::Left(which),
+        None => TelegramSearch::Left(which),
         Some(entry) => seek_in_record(&entry, slot, home, which),
     }
 }
 
 impl Told {
     /// Looks for the telegram of that number among those of one slot.
-    fn seek_in_slot(&self, slot: usize, which: usize) -> Sought<'_>
+    fn seek_in_slot(&self, slot: usize, which: usize) -> TelegramSearch<'_>
         ensures { SoughtIn (sent_in_slot self.now.home slot self.now.out.records) which result }
     {
         let mut left = which;
         for i in 0..self.out.len() {
             match seek_at(&self.out, i, slot, &self.home, left) {
-                Sought::Found(sent) => return Sought::Found(sent),
-                Sought::Left(n) => left = n,
+                TelegramSearch::Found(sent) => return TelegramSearch::Found(sent),
+                TelegramSearch::Left(n) => left = n,
             }
         }
-        Sought::Left(left)
+        TelegramSearch::Left(left)
     }
 
     /// Looks for the telegram of that number among those of the event, slot by slot.
-    fn seek(&self, which: usize) -> Sought<'_>
+    fn seek(&self, which: usize) -> TelegramSearch<'_>
         ensures { SoughtIn (sent_in self.now) which result }
     {
         let mut left = which;
         for slot in 0..self.slots {
             match self.seek_in_slot(slot, left) {
-                Sought::Found(sent) => return Sought::Found(sent),
-                Sought::Left(n) => left = n,
+                TelegramSearch::Found(sent) => return TelegramSearch::Found(sent),
+                TelegramSearch::Left(n) => left = n,
             }
         }
-        Sought::Left(left)
+        TelegramSearch::Left(left)
     }
 }
 
@@ -172,8 +183,8 @@ pub(crate) fn find(events: &[Told], which: usize) -> Option<Sent<'_>>
     let mut left = which;
     for told in events {
         match told.seek(left) {
-            Sought::Found(sent) => return Some(sent),
-            Sought::Left(n) => left = n,
+            TelegramSearch::Found(sent) => return Some(sent),
+            TelegramSearch::Left(n) => left = n,
         }
     }
     None

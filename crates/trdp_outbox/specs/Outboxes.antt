@@ -6,10 +6,10 @@ use Rattle.trdp_outbox.specs.declared.row.PlainAnswer.TheVariants.{Handle, Done,
 use Rattle.trdp_outbox.specs.declared.row.PlainAnswer.TheVariants.{Opened}
 use Rattle.trdp_outbox.specs.declared.row.Heading.{Heading}
 use Rattle.trdp_outbox.specs.declared.row.ReplyHeading.{ReplyHeading}
-use Rattle.trdp_outbox.specs.declared.row.Form.{Form}
-use Rattle.trdp_outbox.specs.declared.row.Form.TheVariants.{PlainAnswer, Value, Silent, Alive}
-use Rattle.trdp_outbox.specs.declared.row.Form.TheVariants.{Notified, Asked, Overrun, Replied}
-use Rattle.trdp_outbox.specs.declared.row.Form.TheVariants.{Confirmed, Closed, Send}
+use Rattle.trdp_outbox.specs.declared.row.RowForm.{RowForm}
+use Rattle.trdp_outbox.specs.declared.row.RowForm.TheVariants.{PlainAnswer, Value, Silent, Alive}
+use Rattle.trdp_outbox.specs.declared.row.RowForm.TheVariants.{Notified, Asked, Overrun, Replied}
+use Rattle.trdp_outbox.specs.declared.row.RowForm.TheVariants.{Confirmed, Closed, Send}
 use Rattle.trdp_model.specs.Records.{AnswerModel, HandleIs, DoneIs, ValueIs, RefusedIs, Content}
 use Rattle.trdp_model.specs.Records.{OpenedIs}
 use Rattle.trdp_model.specs.Records.{Answers, Indicates, Sends, RecordModel, MessageModel}
@@ -51,7 +51,7 @@ replied_under heading bytes = record {
 }
 
 -- what a row says with these bytes
-abbrev pub row_content : Form → List ℕ → Content
+abbrev pub row_content : RowForm → List ℕ → Content
 row_content (PlainAnswer answer) bytes = Answers (plain_answer_model answer)
 row_content (Value state counter) bytes =
     Answers (ValueIs (record { state = state; counter = counter; bytes = bytes }))

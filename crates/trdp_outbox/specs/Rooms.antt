@@ -2,7 +2,8 @@
 use Rattle.std.specs.Prelude.{◌≡◌, ℕ, ◌<◌, ◌≤◌, ◌⊎◌, List, length, filter, nat_lt, Option, Some}
 use Rattle.std.specs.Prelude.{None, Bool, true, false, if◌then◌else◌}
 use Rattle.std.specs.List.{flat_map, sum_by}
-use Rattle.trdp_head.specs.Limits.{pd_payload_limit, pd_telegram_limit, md_payload_limit}
+use Rattle.trdp_base.specs.Limits.{md_payload_limit}
+use Rattle.trdp_head.specs.Limits.{pd_payload_limit, pd_telegram_limit}
 use Rattle.trdp_head.specs.Limits.{md_telegram_limit}
 use Rattle.trdp_head.specs.MdBytes.{md_length_of}
 use Rattle.trdp_filter.specs.declared.globals.Globals.{Globals}

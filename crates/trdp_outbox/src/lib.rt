@@ -23,4 +23,4 @@ mod row;
 pub use by_slot::BySlot;
 pub use outbox::Outbox;
 pub use room::Room;
-pub use row::{Form, Heading, PlainAnswer, ReplyHeading};
+pub use row::{Heading, PlainAnswer, ReplyHeading, RowForm};

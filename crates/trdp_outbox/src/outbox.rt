@@ -3,7 +3,8 @@
 ghost use Rattle.std.specs.Prelude.{◌≡◌, ℕ, ◌+◌, ◌<◌, ◌≤◌, ◌↔◌, ◌++◌, ◌∷◌, length, []};
 ghost use Rattle.std.specs.Prelude.{OnOk, OnErr, IsTrue, ◌⊎◌, slice_get, option_map};
 ghost use Rattle.std.specs.Prelude.{option_copied, take, drop, vec_len, vec_capacity};
-ghost use Rattle.trdp_head.specs.Limits.{pd_payload_limit, md_payload_limit};
+ghost use Rattle.trdp_base.specs.Limits.{md_payload_limit};
+ghost use Rattle.trdp_head.specs.Limits.{pd_payload_limit};
 ghost use Rattle.trdp_head.specs.PdBytes.{pd_bytes, pd_length_of};
 ghost use Rattle.trdp_head.specs.MdBytes.{md_bytes, md_length_of};
 ghost use Rattle.trdp_model.specs.declared.record.Protocol.TheVariants.{Pd, Md};
@@ -14,7 +15,7 @@ ghost use Rattle.trdp_model.specs.Records.{reply_model, record_model};
 ghost use Rattle.trdp_outbox.specs.Outboxes.{plain_answer_model, row_content, headed};
 
 use crate::by_slot::BySlot;
-use crate::row::{Form, Heading, PlainAnswer, ReplyHeading, Row, push_row, record};
+use crate::row::{Heading, PlainAnswer, ReplyHeading, Row, RowForm, push_row, record};
 use std::alloc::{AllocError, Global};
 use std::marker::Model;
 use trdp_base::{Place, SessionId};
@@ -129,7 +130,7 @@ impl Outbox {
     }
 
     /// Adds a record without bytes.
-    pub fn push(&mut self, slot: u16, form: Form)
+    pub fn push(&mut self, slot: u16, form: RowForm)
         requires { 0 < self.old.row_room }
         ensures records { self.new.records
             ≡ self.old.records ++ record { slot = slot; content = row_content form [] } ∷ [] }
@@ -149,11 +150,11 @@ impl Outbox {
         ensures row_room { self.old.row_room ≤ self.new.row_room + 1 }
         ensures byte_room { self.old.byte_room ≤ self.new.byte_room }
     {
-        self.push(slot, Form::PlainAnswer(answer));
+        self.push(slot, RowForm::PlainAnswer(answer));
     }
 
     /// Adds a record with those bytes.
-    fn push_with(&mut self, slot: u16, form: Form, bytes: &[u8])
+    fn push_with(&mut self, slot: u16, form: RowForm, bytes: &[u8])
         requires row { 0 < self.old.row_room }
         requires bytes { length bytes.now ≤ self.old.byte_room }
         ensures records { self.new.records
@@ -178,7 +179,7 @@ impl Outbox {
         ensures row_room { self.old.row_room ≤ self.new.row_room + 1 }
         ensures byte_room { self.old.byte_room ≤ self.new.byte_room + length peek.entry.bytes.now }
     {
-        self.push_with(slot, Form::Value(peek.state, peek.counter), peek.bytes);
+        self.push_with(slot, RowForm::Value(peek.state, peek.counter), peek.bytes);
     }
 
     /// Adds that a listener heard a notification.
@@ -197,7 +198,7 @@ impl Outbox {
     {
         self.push_with(
             slot,
-            Form::Notified(handle, heading_of(message)),
+            RowForm::Notified(handle, heading_of(message)),
             message.payload,
         );
     }
@@ -223,7 +224,7 @@ impl Outbox {
         ensures byte_room { self.old.byte_room
             ≤ self.new.byte_room + length message.now.payload.now }
     {
-        let form = Form::Asked(listener, replier, session, heading_of(message));
+        let form = RowForm::Asked(listener, replier, session, heading_of(message));
         self.push_with(slot, form, message.payload);
     }
 
@@ -247,7 +248,7 @@ impl Outbox {
             status: reply.status,
             com_id: reply.com_id,
         };
-        self.push_with(slot, Form::Replied(handle, heading), reply.payload);
+        self.push_with(slot, RowForm::Replied(handle, heading), reply.payload);
     }
 
     /// Adds a process data telegram, which it writes into its own bytes.
@@ -265,7 +266,13 @@ impl Outbox {
     {
         let at = self.bytes.len();
         let len = push_pd(head, payload, &mut self.bytes);
-        push_row(&mut self.rows, slot, Form::Send(Protocol::Pd, to), at, len);
+        push_row(
+            &mut self.rows,
+            slot,
+            RowForm::Send(Protocol::Pd, to),
+            at,
+            len,
+        );
     }
 
     /// Adds a message data telegram, which it writes into its own bytes.
@@ -283,7 +290,13 @@ impl Outbox {
     {
         let at = self.bytes.len();
         let len = push_md(head, payload, &mut self.bytes);
-        push_row(&mut self.rows, slot, Form::Send(Protocol::Md, to), at, len);
+        push_row(
+            &mut self.rows,
+            slot,
+            RowForm::Send(Protocol::Md, to),
+            at,
+            len,
+        );
     }
 }
 

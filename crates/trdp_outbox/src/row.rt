@@ -52,7 +52,7 @@ pub struct ReplyHeading {
 
 /// What a row says, without its bytes.
 #[derive(Clone, Copy)]
-pub enum Form {
+pub enum RowForm {
     /// An answer without bytes.
     PlainAnswer(PlainAnswer),
     /// What a subscription shows: the state of its value and the sequence counter that came with
@@ -85,7 +85,7 @@ pub struct Row {
     /// The number of the slot that it is for, from 0.
     pub slot: u16,
     /// What it says, without its bytes.
-    pub form: Form,
+    pub form: RowForm,
     /// The index of its first byte in the outbox's list.
     pub at: usize,
     /// How many bytes it has; 0 where it has none.
@@ -131,36 +131,38 @@ fn reply<'a>(heading: &ReplyHeading, bytes: &'a [u8]) -> Reply<'a>
 }
 
 /// What a row says with these bytes.
-fn content<'a>(form: &Form, bytes: &'a [u8]) -> What<'a>
+fn content<'a>(form: &RowForm, bytes: &'a [u8]) -> What<'a>
     ensures { content_model result ≡ row_content form.now bytes.now }
 {
     match form {
-        Form::PlainAnswer(plain) => What::Answer(answer(*plain)),
-        Form::Value(state, counter) => What::Answer(Answer::Value(Peek {
+        RowForm::PlainAnswer(plain) => What::Answer(answer(*plain)),
+        RowForm::Value(state, counter) => What::Answer(Answer::Value(Peek {
             state: *state,
             counter: *counter,
             bytes,
         })),
-        Form::Silent(handle) => What::Indication(Indication::Silent(*handle)),
-        Form::Alive(handle) => What::Indication(Indication::Alive(*handle)),
-        Form::Notified(handle, heading) => {
+        RowForm::Silent(handle) => What::Indication(Indication::Silent(*handle)),
+        RowForm::Alive(handle) => What::Indication(Indication::Alive(*handle)),
+        RowForm::Notified(handle, heading) => {
             What::Indication(Indication::Notified(*handle, message(heading, bytes)))
         }
-        Form::Asked(listener, replier, session, heading) => What::Indication(Indication::Asked {
-            listener: *listener,
-            replier: *replier,
-            session: *session,
-            message: message(heading, bytes),
-        }),
-        Form::Overrun(handle) => What::Indication(Indication::Overrun(*handle)),
-        Form::Replied(handle, heading) => {
+        RowForm::Asked(listener, replier, session, heading) => What::Indication(
+            Indication::Asked {
+                listener: *listener,
+                replier: *replier,
+                session: *session,
+                message: message(heading, bytes),
+            },
+        ),
+        RowForm::Overrun(handle) => What::Indication(Indication::Overrun(*handle)),
+        RowForm::Replied(handle, heading) => {
             What::Indication(Indication::Replied(*handle, reply(heading, bytes)))
         }
-        Form::Confirmed(handle, status) => {
+        RowForm::Confirmed(handle, status) => {
             What::Indication(Indication::Confirmed(*handle, *status))
         }
-        Form::Closed(handle, reason) => What::Indication(Indication::Closed(*handle, *reason)),
-        Form::Send(protocol, to) => What::Send {
+        RowForm::Closed(handle, reason) => What::Indication(Indication::Closed(*handle, *reason)),
+        RowForm::Send(protocol, to) => What::Send {
             kind: *protocol,
             to: *to,
             telegram: bytes,
@@ -180,7 +182,7 @@ pub fn record<'a>(row: &Row, bytes: &'a [u8]) -> Record<'a>
 }
 
 /// Adds a row at the end, within the room.
-pub fn push_row(rows: &mut Vec<Row>, slot: u16, form: Form, at: usize, len: usize)
+pub fn push_row(rows: &mut Vec<Row>, slot: u16, form: RowForm, at: usize, len: usize)
     requires { vec_len rows.old < vec_capacity rows.old }
     ensures items { rows.new.items
         ≡ rows.old.items ++ record { slot = slot; form = form; at = at; len = len } ∷ [] }

@@ -5,6 +5,6 @@ use Rattle.trdp_store.specs.declared.deed.Left.{Left}
 use Rattle.trdp_store.specs.declared.deed.Left.TheVariants.{Stays, Ended}
 
 -- what is left of an object that stays or ended
-abbrev pub left_of : Left → AnyObject → Option AnyObject
-left_of Stays object = Some object
-left_of Ended object = None
+abbrev pub object_left : Left → AnyObject → Option AnyObject
+object_left Stays object = Some object
+object_left Ended object = None

@@ -23,8 +23,8 @@ pub record FiresFirst (t : ℕ) (objects : List Entry) (entry : Entry) : Type 0 
   pub first_after : FiresBeforeAll entry (filter (is_due t) after)
 
 -- the object of the handle fires next of those that are due
-abbrev pub IsNext : ℕ → List Entry → ℕ → Type 0
-IsNext t objects handle =
+abbrev pub FiresNext : ℕ → List Entry → ℕ → Type 0
+FiresNext t objects handle =
     Some handle
     ≡ option_map (λ entry. entry.handle) (slice_get (in_order (filter (is_due t) objects)) 0)
 
@@ -33,4 +33,4 @@ abbrev pub ComesNext : ℕ → TableState → Option Sought → Type 0
 ComesNext t table None = (s : ℕ) → filter (is_due t) (slot_at s table).objects ≡ []
 ComesNext t table (Some sought) =
     (sought.slot < length table)
-    × IsNext t (slot_at sought.slot table).objects sought.handle
+    × FiresNext t (slot_at sought.slot table).objects sought.handle

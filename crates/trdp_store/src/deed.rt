@@ -8,7 +8,7 @@ ghost use Rattle.trdp_model.specs.Objects.{due_of};
 ghost use Rattle.trdp_model.specs.Acts.{Act};
 ghost use Rattle.trdp_model.specs.Records.{labelled};
 ghost use Rattle.trdp_outbox.specs.Outboxes.{OutboxState};
-ghost use Rattle.trdp_store.specs.Deeds.{left_of};
+ghost use Rattle.trdp_store.specs.Deeds.{object_left};
 ghost use Rattle.trdp_store.specs.Indexed.{com_of};
 ghost use Rattle.trdp_store.specs.InSession.{own_session};
 ghost use Rattle.trdp_store.specs.Timed.{IsOver};
@@ -43,7 +43,7 @@ pub trait Deed {
     /// Does it to an object of that handle in slot `s`, and adds its records to the outbox.
     fn on(&self, object: &mut AnyObject, handle: u32, s: u16, out: &mut Outbox) -> Left
         requires may { may self.now handle object.old out.old }
-        ensures left { left_of result object.new ≡ (act self.now handle object.old).left }
+        ensures left { object_left result object.new ≡ (act self.now handle object.old).left }
         ensures records { out.new.records
             ≡ out.old.records ++ labelled s (act self.now handle object.old).records }
         ensures spends { spends self.now object.old out.old out.new }

@@ -2,6 +2,7 @@
 use Rattle.std.specs.Prelude.{◌≡◌, ℕ, suc, ◌==◌, ◌&&◌, List, [], ◌∷◌, length, nat_lt, nat_le, Bool}
 use Rattle.std.specs.Prelude.{true}
 use Rattle.std.specs.Prelude.{Option, Some, None, Result, Ok, Err, if◌then◌else◌, find, option_map}
+use Rattle.trdp_base.specs.Limits.{line_limit}
 use Rattle.trdp_model.specs.Events.{EventModel, event_model}
 use Rattle.trdp_model.specs.declared.event.Event.{Event}
 use Rattle.trdp_text.specs.EventBytes.{carries_bytes}
@@ -63,7 +64,7 @@ say_among known words = words_say (form_among known words) words
 -- rule: line.length
 unfoldable pub line_among : List LineForm → List ℕ → Result (Option EventModel) LineFault
 line_among known text =
-    if nat_lt 140000 (length text) then Err TooLong
+    if nat_lt line_limit (length text) then Err TooLong
     else (if is_skipped text then Ok None
     else say_among known (words_of text))
 
@@ -81,11 +82,12 @@ ReadsLine (Err fault) (Ok read) = ⊥
 ReadsLine (Err fault) (Err other) = other ≡ fault
 
 -- the same, wherever the bytes of the event that was read are
-abbrev pub Reads : Result (Option EventModel) LineFault → Result (Option Event) LineFault → Type 0
-Reads meaning (Ok read) = ReadsLine meaning (Ok (option_map event_model read))
-Reads meaning (Err fault) = ReadsLine meaning (Err fault)
+abbrev pub ReadsOrSkips : Result (Option EventModel) LineFault → Result (Option Event) LineFault
+    → Type 0
+ReadsOrSkips meaning (Ok read) = ReadsLine meaning (Ok (option_map event_model read))
+ReadsOrSkips meaning (Err fault) = ReadsLine meaning (Err fault)
 
 -- the same where a line isn't skipped: what was read is its event
 abbrev pub ReadsEvent : Result (Option EventModel) LineFault → Result Event LineFault → Type 0
-ReadsEvent meaning (Ok read) = Reads meaning (Ok (Some read))
-ReadsEvent meaning (Err fault) = Reads meaning (Err fault)
+ReadsEvent meaning (Ok read) = ReadsOrSkips meaning (Ok (Some read))
+ReadsEvent meaning (Err fault) = ReadsOrSkips meaning (Err fault)

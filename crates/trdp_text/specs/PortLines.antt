@@ -4,6 +4,7 @@ use Rattle.std.specs.Prelude.{Option, Some, None, Result, Ok, Err, if◌then◌e
 use Rattle.std.specs.Io.BufRead.{ends_with_byte, strip_last}
 use Rattle.std.specs.Str.{bytes_eq}
 use Rattle.std.specs.Str.Lines.{strip_carriage_return}
+use Rattle.trdp_base.specs.Limits.{line_limit}
 use Rattle.trdp_base.specs.NumberText.{text_of_number}
 use Rattle.trdp_model.specs.Events.{EventModel, event_model}
 use Rattle.trdp_text.specs.Forms.{LineForm, call_word, topology_form, role_form, add_slot_form}
@@ -72,7 +73,7 @@ operator_words words = operator_says (question_of (first_word words)) words
 unfoldable pub operator_line_of : List ℕ → Result (Option OperatorSays) LineFault
 operator_line_of bytes =
     let text = without_end bytes in
-    if nat_lt 140000 (length text) then Err TooLong
+    if nat_lt line_limit (length text) then Err TooLong
     else (if is_skipped text then Ok None
     else operator_words (words_of text))
 

@@ -48,7 +48,7 @@ mod words;
 
 pub use config_names::{ConfigFaultText, config_fault_name};
 pub use fault::LineFault;
-pub use line::{LINE_MAX, read_event};
+pub use line::read_event;
 pub use line_end::without_return;
 pub use names::{fault_name, line_fault_name, reason_name, refusal_name};
 pub use operator_line::{OperatorLine, Question};
@@ -57,3 +57,4 @@ pub use port::{read_control_event, read_operator};
 pub use print::{bytes_in, print_fault, print_record};
 pub use print_all::print_records;
 pub use split::split_at_byte;
+pub use trdp_base::LINE_MAX;

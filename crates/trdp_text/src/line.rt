@@ -2,7 +2,7 @@
 
 ghost use Rattle.std.specs.Prelude.{◌≡◌, ◌++◌, true, false, take, List, None, Ok, Err, IfErr, IfOk};
 ghost use Rattle.trdp_text.specs.Forms.{LineForm};
-ghost use Rattle.trdp_text.specs.Lines.{line_among, line_of, say_among, Reads};
+ghost use Rattle.trdp_text.specs.Lines.{line_among, line_of, say_among, ReadsOrSkips};
 ghost use Rattle.trdp_text.specs.Lines.{is_skipped as skipped};
 ghost use Rattle.trdp_text.specs.Words.{words_of};
 ghost use Rattle.trdp_text.specs.WordsLeft.{words_at};
@@ -11,10 +11,8 @@ ghost use Rattle.trdp_text.specs.declared.words.TheConstants.{WORDS_ROOM};
 use crate::fault::LineFault;
 use crate::form::read_words;
 use crate::words::{CutWords, Words, cut_words};
+use trdp_base::LINE_MAX;
 use trdp_model::Event;
-
-/// The longest line, in bytes without its end (profile).
-pub const LINE_MAX: usize = 140_000;
 
 /// Reads a line as [`read_line`](crate::read_line) does, with the event's bytes in the buffer, in
 /// place of what that held: the event that it says, or the first of its faults (profile). None
@@ -28,7 +26,7 @@ pub const LINE_MAX: usize = 140_000;
 /// Every [`LineFault`], in their order. `OutOfMemory` comes only where the line carries bytes, and
 /// is found when nothing else is wrong.
 pub fn read_event<'b>(buffer: &'b mut Vec<u8>, text: &[u8]) -> Result<Option<Event<'b>>, LineFault>
-    ensures meaning { Reads (line_of text.now) result }
+    ensures meaning { ReadsOrSkips (line_of text.now) result }
 {
     let mut words = CutWords::new();
     if !cut_line(&mut words, text)? {

@@ -2,7 +2,7 @@
 //! its application; at the operator's port, what concerns the whole node.
 
 ghost use Rattle.std.specs.Prelude.{◌≡◌, ◌≢◌, IfOk, IfErr, Ok, Err, Some, option_map};
-ghost use Rattle.trdp_text.specs.Lines.{Reads};
+ghost use Rattle.trdp_text.specs.Lines.{ReadsOrSkips};
 ghost use Rattle.trdp_text.specs.PortLines.{control_line_of, operator_line_model};
 ghost use Rattle.trdp_text.specs.PortLines.{operator_line_of, operator_words};
 ghost use Rattle.trdp_text.specs.PortLines.{without_end as line_without_end};
@@ -10,11 +10,12 @@ ghost use Rattle.trdp_text.specs.WordsLeft.{words_left};
 
 use crate::fault::LineFault;
 use crate::form::{read_operators, read_words};
-use crate::line::{LINE_MAX, is_skipped};
+use crate::line::is_skipped;
 use crate::line_end::without_return;
 use crate::operator_line::{OperatorLine, question_of};
 use crate::words::{CALL, CutWords, Words, cut_words};
 use itoa::Buffer;
+use trdp_base::LINE_MAX;
 use trdp_model::Event;
 
 /// Reads a datagram that came to the control port of a slot: the line of a call by the slot's
@@ -33,7 +34,7 @@ pub fn read_control_event<'b>(
     slot: u16,
     bytes: &[u8],
 ) -> Result<Option<Event<'b>>, LineFault>
-    ensures meaning { Reads (control_line_of slot bytes.now) result }
+    ensures meaning { ReadsOrSkips (control_line_of slot bytes.now) result }
 {
     let text = without_end(bytes);
     if is_skipped(text) {

@@ -23,7 +23,7 @@ use Rattle.trdp_store.specs.Acting.{act_of}
 use Rattle.trdp_model.proofs.HandleLemmas.{IsRising}
 use Rattle.trdp_model.specs.Moments.{is_due, fires_before, inserted, in_order, left_firing}
 use Rattle.trdp_model.specs.Moments.{firing_act, after_moment, moved_to}
-use Rattle.trdp_store.specs.Firing.{IsNext}
+use Rattle.trdp_store.specs.Firing.{FiresNext}
 use Rattle.trdp_model.specs.Fitting.{AllSound}
 use Rattle.trdp_model.proofs.AllObjectLemmas.{AllObjects-found, IsLeft, AllObjects-acted}
 use Rattle.trdp_store.proofs.DueLemmas.First.{in_order-filter, sum-in_order}
@@ -191,7 +191,7 @@ pub record HasNext (t : ℕ) (objects : List Entry) (handle : ℕ) : Type 0 wher
   pub handle_is : entry.handle ≡ handle
 
 pub next_is : (t : ℕ) (objects : List Entry) (handle : ℕ) → IsRising objects
-    → AllSound objects → IsNext t objects handle → HasNext t objects handle
+    → AllSound objects → FiresNext t objects handle → HasNext t objects handle
 next_is t objects handle rising sound is = elim (in_order (filter (is_due t) objects)) as (λ es.
     in_order (filter (is_due t) objects) ≡ es → Some handle
     ≡ option_map (λ entry. entry.handle) (slice_get es 0) → HasNext t objects handle) [

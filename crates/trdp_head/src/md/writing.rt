@@ -7,7 +7,7 @@ ghost use Rattle.trdp_head.specs.MdKinds.{md_code_of};
 ghost use Rattle.trdp_head.specs.MdHeads.{IsMdHead};
 ghost use Rattle.trdp_head.specs.IsMdTelegram.{IsMdTelegram};
 ghost use Rattle.trdp_head.specs.MdBytes.{md_length_of, md_head_bytes, md_bytes};
-ghost use Rattle.trdp_head.specs.Limits.{md_payload_limit};
+ghost use Rattle.trdp_base.specs.Limits.{md_payload_limit};
 
 use crate::fields::{put_bytes, put_i32, put_u32, put_u128};
 use crate::md::{MD_HEAD, MdHead, MdKind, layout};

@@ -19,7 +19,7 @@ use Rattle.trdp_script.specs.declared.fault.ScriptFault.TheVariants.{Line, Read,
 use Rattle.trdp_script.specs.declared.fault.ScriptFault.TheVariants.{OutOfMemory}
 use Rattle.trdp_text.specs.Forms.{LineForm, forms, event_in}
 use Rattle.trdp_text.specs.Words.{words_of}
-use Rattle.trdp_text.specs.Lines.{Reads, event_or_fault, form_among}
+use Rattle.trdp_text.specs.Lines.{ReadsOrSkips, event_or_fault, form_among}
 use Rattle.trdp_text.specs.Lines.{is_skipped, line_among, line_of, may_have}
 use Rattle.trdp_text.specs.Lines.{form_says, say_among, words_say}
 use Rattle.trdp_script.specs.Pieces.{IsBare}
@@ -278,13 +278,13 @@ never_memory text is = never_long (nat_lt 140000 (length text)) (is_skipped text
 
 -- a good line for which an allocation fails
 pub memory_came : (p q : Player) (w : Option (List ℕ)) (n : ℕ) (text : List ℕ) (bad : LineFault)
-    → bad ≡ NoMemory → Reads (line_of text) (Err bad) → q.output.items ≡ p.output.items
+    → bad ≡ NoMemory → ReadsOrSkips (line_of text) (Err bad) → q.output.items ≡ p.output.items
     → LineComesTo p q w w n (line_of text) (Err OutOfMemory)
 unfolding LineComesTo
 memory_came p q w n text bad is reads same = memory_of (line_of text) (never_memory text) reads
   where
     memory_of : (meaning : Result (Option EventModel) LineFault) → NeverMemory meaning
-        → Reads meaning (Err bad) → LineComesTo p q w w n meaning (Err OutOfMemory)
+        → ReadsOrSkips meaning (Err bad) → LineComesTo p q w w n meaning (Err OutOfMemory)
     memory_of (Ok None) never reads = let none = reads.1 in absurd (cc)
     memory_of (Ok (Some event)) never reads = (
       subst (λ (l : List ℕ). PassesOn w w p.output.items l []) (sym same)
@@ -297,7 +297,7 @@ memory_came p q w n text bad is reads same = memory_of (line_of text) (never_mem
 pub event_came : (p q : Player) (v w : Option (List ℕ)) (n : ℕ)
     (meaning : Result (Option EventModel) LineFault) (read : Option Event) (event : Event)
     (with_it : List ℕ) (r : Result (Unit {0}) ScriptFault)
-    → read ≡ Some event → Reads meaning (Ok read)
+    → read ≡ Some event → ReadsOrSkips meaning (Ok read)
     → node_of q ≡ node_after (node_of p) (event_model event)
     → with_it ≡ p.output.items ++ event_text (node_of p) (event_model event)
     → OnOk r (PassesOn v w with_it q.output.items []) → OnErr r (PassesSome v w with_it [])

@@ -12,7 +12,7 @@ use Rattle.std.proofs.lemmas.List.Elements.{filter-append}
 use Rattle.trdp_model.specs.Slots.{Entry, entry_under}
 use Rattle.trdp_model.proofs.HandleLemmas.{AllAbove, IsRising}
 use Rattle.trdp_model.specs.Moments.{is_due, fires_before, inserted, in_order}
-use Rattle.trdp_store.specs.Firing.{FiresBeforeAll, FiresFirst, IsNext}
+use Rattle.trdp_store.specs.Firing.{FiresBeforeAll, FiresFirst, FiresNext}
 
 -- each of these that is due, and has another handle, fires after it
 abbrev pub AllCome : ℕ → Entry → List Entry → Type 0
@@ -127,7 +127,7 @@ first_in_order t objects entry f =
 
 -- it comes next
 pub comes_next : (t : ℕ) (objects : List Entry) (entry : Entry)
-    → FiresFirst t objects entry → IsNext t objects entry.handle
+    → FiresFirst t objects entry → FiresNext t objects entry.handle
 comes_next t objects entry f =
     ap (λ (es : List Entry). option_map (λ e. e.handle) (slice_get es 0))
     (sym (first_in_order t objects entry f))

@@ -17,7 +17,7 @@ use Rattle.trdp_timers.specs.Contents.{IsFirst}
 use Rattle.trdp_store.specs.TableSlots.{entry_of_keyed}
 use Rattle.trdp_store.specs.Acting.{slot_at}
 use Rattle.trdp_model.specs.Moments.{is_due, fires_before}
-use Rattle.trdp_store.specs.Firing.{ComesNext, IsNext}
+use Rattle.trdp_store.specs.Firing.{ComesNext, FiresNext}
 use Rattle.trdp_store.specs.Timed.{ScheduleState, due_order, IsScheduled, IsNoneDue, IsFirstDue}
 use Rattle.trdp_store.proofs.StoreLemmas.Slots.{handle_found, entry_found, rising}
 use Rattle.trdp_store.proofs.DueLemmas.First.{AllCome, fires_first, comes_next}
@@ -115,7 +115,7 @@ module _ (table : TableState) (schedule : ScheduleState) (t : ℕ) (is : IsSched
     all_come [] all = tt
     all_come (e ∷ es) all = (comes e all.0, all_come es all.1)
 
-    next_of : IsNext t (slot_at order.slot table).objects order.handle
+    next_of : FiresNext t (slot_at order.slot table).objects order.handle
     next_of =
         let there = entry_found owner.handle (slot_in order.slot table).objects
         ∙ ap (option_map entry_of_keyed)
@@ -124,7 +124,7 @@ module _ (table : TableState) (schedule : ScheduleState) (t : ℕ) (is : IsSched
         let f = fires_first t (entry_of_keyed owner)
         (slot_at order.slot table).objects (rising table order.slot sound)
         (all_come (slot_in order.slot table).objects (listed order.slot)) there due in
-        subst (IsNext t (slot_at order.slot table).objects)
+        subst (FiresNext t (slot_at order.slot table).objects)
         under (comes_next t (slot_at order.slot table).objects (entry_of_keyed owner) f)
 
   pub none_comes : IsNoneDue t schedule.orders → ComesNext t table None

@@ -23,7 +23,7 @@ use Rattle.trdp_model.specs.declared.any_object.AnyObject.TheVariants.{Publisher
 use Rattle.trdp_model.specs.declared.any_object.AnyObject.TheVariants.{Requester, Listener}
 use Rattle.trdp_model.specs.declared.any_object.AnyObject.TheVariants.{Caller, Replier}
 use Rattle.trdp_model.specs.Objects.{due_of, after_taking, taken}
-use Rattle.trdp_md.specs.declared.answers.Answer.{Answer}
+use Rattle.trdp_md.specs.declared.answers.RequestAnswer.{RequestAnswer}
 use Rattle.trdp_md.specs.declared.listener.Listener.{Listener as AnyListener}
 use Rattle.trdp_md.specs.Listeners.{listener_addressed, listener_taking}
 use Rattle.trdp_md.specs.declared.caller.Caller.{Caller as AnyCaller}
@@ -45,7 +45,7 @@ IsOverBy before due did = Unit {0}
 
 -- A caller with its last answer.
 
-last_of : (p : Answer → Bool) (xs : List Answer) (x : Answer)
+last_of : (p : RequestAnswer → Bool) (xs : List RequestAnswer) (x : RequestAnswer)
     → list_any p (xs ++ x ∷ []) ≡ false → p x ≡ false
 last_of p [] x none = or_left (p x) false none
 last_of p (y ∷ xs) x none = last_of p xs x (or_right (p y) (list_any p (xs ++ x ∷ [])) none)

@@ -16,7 +16,7 @@ use Rattle.trdp_text.specs.Forms.{NumberField, LastNumberField, AnyOrNumberField
 use Rattle.trdp_text.specs.Forms.{PlaceField}
 use Rattle.trdp_text.specs.Forms.{BytesField, UriField, StatusField, SessionField, ChoiceField}
 use Rattle.trdp_text.specs.Lines.{form_says, line_among, may_have, say_among}
-use Rattle.trdp_text.specs.Lines.{words_say, Reads}
+use Rattle.trdp_text.specs.Lines.{words_say, ReadsOrSkips}
 use Rattle.trdp_text.specs.PortLines.{operator_forms}
 use Rattle.trdp_text.specs.Words.{first_word, other_words, third_word, words_of}
 use Rattle.trdp_text.specs.declared.fault.LineFault.{LineFault}
@@ -116,16 +116,16 @@ operators_few_parts = refl
 -- what was read of the first 15 words of a line is what all words say
 pub words_read : (known : List LineForm) (line words : List (List ℕ))
     (r : Result (Option Event) LineFault) → have_fewer 15 known ≡ true → words ≡ take 15 line
-    → Reads (say_among known words) r
-    → Reads (say_among known line) r
+    → ReadsOrSkips (say_among known words) r
+    → ReadsOrSkips (say_among known line) r
 words_read known line words r few cut reads =
-    subst (λ meaning. Reads meaning r) (forms_say known 15 line few)
-    (subst (λ ws. Reads (say_among known ws) r) cut reads)
+    subst (λ meaning. ReadsOrSkips meaning r) (forms_say known 15 line few)
+    (subst (λ ws. ReadsOrSkips (say_among known ws) r) cut reads)
 
 -- the same of a line whose words say it
 pub line_read : (known : List LineForm) (text : List ℕ) (words : List (List ℕ))
     (r : Result (Option Event) LineFault) → have_fewer 15 known ≡ true
     → line_among known text ≡ say_among known (words_of text) → words ≡ take 15 (words_of text)
-    → Reads (say_among known words) r → Reads (line_among known text) r
+    → ReadsOrSkips (say_among known words) r → ReadsOrSkips (line_among known text) r
 line_read known text words r few said cut reads =
     rw said (words_read known (words_of text) words r few cut reads)

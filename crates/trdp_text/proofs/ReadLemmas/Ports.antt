@@ -17,7 +17,7 @@ use Rattle.trdp_text.specs.Forms.{call_word, event_in, forms, has_keywords}
 use Rattle.trdp_text.specs.Forms.{role_form, topology_form, add_slot_form}
 use Rattle.trdp_text.specs.Words.{words_of, first_word, other_words, number_of_word}
 use Rattle.trdp_text.specs.WordsLeft.{words_at}
-use Rattle.trdp_text.specs.Lines.{Reads, event_or_fault, form_says, is_skipped}
+use Rattle.trdp_text.specs.Lines.{ReadsOrSkips, event_or_fault, form_says, is_skipped}
 use Rattle.trdp_text.specs.Lines.{line_among}
 use Rattle.trdp_text.specs.Lines.{may_have, say_among, words_say}
 use Rattle.trdp_text.specs.PortLines.{call_line, control_line_of, operator_forms}
@@ -172,7 +172,7 @@ operators_words words = by_form (has_keywords topology_form.parts words)
 
 -- it is never out of memory
 pub operators_never_want : (meaning : Result (Option EventModel) LineFault) (fault : LineFault)
-    → IsOperators meaning → Reads meaning (Err fault) → fault ≡ OutOfMemory → ⊥
+    → IsOperators meaning → ReadsOrSkips meaning (Err fault) → fault ≡ OutOfMemory → ⊥
 operators_never_want (Err bad) fault never reads is = never (sym reads ∙ is)
 operators_never_want (Ok None) fault of reads is = let none = reads.1 in absurd (cc)
 operators_never_want (Ok (Some (MomentIs t))) fault of reads is = absurd of

@@ -3,7 +3,7 @@ use Rattle.std.proofs.Common.{ap, sym, ◌∙◌, append-nil}
 use Rattle.std.proofs.lemmas.Option.{slice_get-get_or}
 use Rattle.trdp_net.specs.Networks.{Sent}
 use Rattle.trdp_net.specs.Tellings.{sent_in, all_sent}
-use Rattle.trdp_net.specs.declared.told.Sought.TheVariants.{Found}
+use Rattle.trdp_net.specs.declared.told.TelegramSearch.TheVariants.{Found}
 use Rattle.trdp_net.specs.declared.told.Told.{Told}
 use Rattle.trdp_net.proofs.TellingLemmas.{went, events_step, none_left}
 use Rattle.trdp_net.proofs.told.find.Goals as goal

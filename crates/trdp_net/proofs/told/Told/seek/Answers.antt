@@ -1,6 +1,6 @@
 use Rattle.std.proofs.Common.{◌+◌, ◌-◌, ◌<◌, rules}
 use Rattle.trdp_net.specs.Tellings.{sent_in, sent_in_slot, sent_in_slots}
-use Rattle.trdp_net.specs.declared.told.Sought.TheVariants.{Found, Left}
+use Rattle.trdp_net.specs.declared.told.TelegramSearch.TheVariants.{Found, Left}
 use Rattle.trdp_net.proofs.TellingLemmas.{went, slots_step}
 use Rattle.trdp_net.proofs.told.Told.seek.Goals as goal
 

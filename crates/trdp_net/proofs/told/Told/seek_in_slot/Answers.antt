@@ -1,7 +1,7 @@
 use Rattle.std.proofs.Common.{◌+◌, drop, slice_get}
 use Rattle.std.specs.Prelude.{option_to_list}
 use Rattle.trdp_net.specs.Tellings.{sent_in_slot}
-use Rattle.trdp_net.specs.declared.told.Sought.TheVariants.{Found, Left}
+use Rattle.trdp_net.specs.declared.told.TelegramSearch.TheVariants.{Found, Left}
 use Rattle.trdp_net.proofs.TellingLemmas.{went, slot_step}
 use Rattle.trdp_net.proofs.told.Told.seek_in_slot.Goals as goal
 
