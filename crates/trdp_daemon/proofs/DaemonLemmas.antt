@@ -11,7 +11,8 @@ use Rattle.trdp_dataset.specs.Configs.{ConfigModel}
 use Rattle.trdp_daemon.specs.declared.link.Link.{Link}
 use Rattle.trdp_wire.specs.declared.port.Port.{Port}
 use Rattle.trdp_daemon.specs.declared.service.Service.{Service}
-use Rattle.trdp_wire.specs.Told.{TellsMore, Taking, Give}
+use Rattle.trdp_base.specs.Reported.{TellsMore}
+use Rattle.trdp_wire.specs.Told.{Taking, Give}
 use Rattle.trdp_daemon.specs.Counting.{no_totals, totals_after}
 use Rattle.trdp_daemon.specs.Daemons.{DaemonState, TakesTurns, HasServed, opened_daemon}
 use Rattle.trdp_daemon.specs.Effects.{ServiceState, then_effect}
@@ -21,7 +22,7 @@ use Rattle.trdp_daemon.specs.Turns.{AllTakeAt, TurnTakesAt, takings_of, turn_eff
 use Rattle.trdp_daemon.specs.Turns.{opened_service}
 use Rattle.trdp_daemon.proofs.CountedLemmas.{gives_length, turns_counted_both, turns_counted_from}
 use Rattle.trdp_daemon.proofs.LinkLemmas.{carries_as, totals_both}
-use Rattle.trdp_wire.proofs.ToldLemmas.{adds_none, adds_both}
+use Rattle.trdp_base.proofs.ReportedLemmas.{adds_none, adds_both}
 use Rattle.trdp_daemon.proofs.TellingLemmas.{both_silence}
 use Rattle.trdp_daemon.proofs.TurnLemmas.{turns_append, all_both}
 

@@ -7,10 +7,11 @@ use Rattle.std.proofs.Common.{ap, subst, arith, length-append}
 use Rattle.std.specs.Prelude.{filter}
 use Rattle.std.proofs.lemmas.List.{map-append}
 use Rattle.std.proofs.lemmas.List.Elements.{filter-append}
-use Rattle.trdp_wire.proofs.ToldLemmas.{adds_none, adds_both}
+use Rattle.trdp_base.proofs.ReportedLemmas.{adds_none, adds_both}
 use Rattle.trdp_daemon.specs.declared.link.Link.{Link}
 use Rattle.trdp_daemon.specs.declared.totals.Totals.{Totals}
-use Rattle.trdp_wire.specs.Told.{TellsMore, Taking, Give, has_come, has_failed}
+use Rattle.trdp_base.specs.Reported.{TellsMore}
+use Rattle.trdp_wire.specs.Told.{Taking, Give, has_come, has_failed}
 use Rattle.trdp_daemon.specs.Counting.{counted, totals_after}
 use Rattle.trdp_daemon.specs.Effects.{Telling, silence, both}
 use Rattle.trdp_daemon.specs.Links.{Carries}

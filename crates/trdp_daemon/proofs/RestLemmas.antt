@@ -8,7 +8,8 @@ use Rattle.std.specs.List.{list_any, flat_map}
 use Rattle.std.proofs.lemmas.List.{map-append}
 use Rattle.std.proofs.lemmas.List.Folds.{list_any-append}
 use Rattle.trdp_dataset.specs.Configs.{ConfigModel}
-use Rattle.trdp_wire.specs.Told.{TellsMore, Taking, Give}
+use Rattle.trdp_base.specs.Reported.{TellsMore}
+use Rattle.trdp_wire.specs.Told.{Taking, Give}
 use Rattle.trdp_daemon.specs.Daemons.{DaemonState, TakesTurns, HasServed}
 use Rattle.trdp_daemon.specs.Turns.{Turn, takings_of}
 use Rattle.trdp_daemon.specs.Resting.{Rests, TakesTurnAt, TakesEarly, TakesLast, AttendsUntil}
@@ -62,12 +63,13 @@ turn_at s t a b x y ports reading named config read p = record {
 
 -- a rest after turns changes nothing of them
 unfoldable turns_rest : {W C : Type 0} {takings_in : W → Option (List Taking)}
-    {gives_in : W → Option (List Give)} {readings_in : C → Option (List ℕ)}
+    {gives_in : W → Option (List Give)} {rested_in : W → W → ℕ → Type 0}
+    {readings_in : C → Option (List ℕ)}
     {n reading until : ℕ} {a b c : DaemonState W C}
     → TakesTurns takings_in gives_in readings_in n a b
-    → Rests takings_in gives_in reading until b c
+    → Rests takings_in gives_in rested_in reading until b c
     → TakesTurns takings_in gives_in readings_in n a c
-turns_rest {W} {C} {takings_in} {gives_in} {readings_in} {n} {a} {b} {c} p q = record {
+turns_rest {W} {C} {takings_in} {gives_in} {readings_in = readings_in} {n} {a} {b} {c} p q = record {
   turns = p.turns;
   gives = p.gives;
   count = p.count;
@@ -87,18 +89,20 @@ turns_rest {W} {C} {takings_in} {gives_in} {readings_in} {n} {a} {b} {c} p q = r
 
 -- that many early turns, each with a rest after it, and the reading of the last
 pub record Attended {W C : Type 0} (takings_in : W → Option (List Taking))
-    (gives_in : W → Option (List Give)) (readings_in : C → Option (List ℕ))
+    (gives_in : W → Option (List Give)) (rested_in : W → W → ℕ → Type 0)
+    (readings_in : C → Option (List ℕ))
     (until n reading : ℕ) (old new : DaemonState W C) : Type 0 where
   pub early : TakesEarly takings_in gives_in readings_in until n old new
-  pub rested : RestsBehind takings_in gives_in readings_in until n old new
+  pub rested : RestsBehind takings_in gives_in rested_in readings_in until n old new
   pub reading_is : reading ≡ last_reading early.taken.turns
 
 -- no turn was taken
 pub attended_none : {W C : Type 0} (takings_in : W → Option (List Taking))
-    (gives_in : W → Option (List Give)) (readings_in : C → Option (List ℕ)) (until : ℕ)
-    (d : DaemonState W C) → Attended takings_in gives_in readings_in until 0 0 d d
+    (gives_in : W → Option (List Give)) (rested_in : W → W → ℕ → Type 0)
+    (readings_in : C → Option (List ℕ)) (until : ℕ)
+    (d : DaemonState W C) → Attended takings_in gives_in rested_in readings_in until 0 0 d d
 unfolding no_turns
-attended_none takings_in gives_in readings_in until d = record {
+attended_none takings_in gives_in rested_in readings_in until d = record {
   early = record { taken = no_turns takings_in gives_in readings_in d; early = refl };
   rested = refl;
   reading_is = refl;
@@ -128,37 +132,40 @@ early_more {until = until} p q late =
 
 -- early turns, and a rest after them
 unfoldable early_rest : {W C : Type 0} {takings_in : W → Option (List Taking)}
-    {gives_in : W → Option (List Give)} {readings_in : C → Option (List ℕ)}
+    {gives_in : W → Option (List Give)} {rested_in : W → W → ℕ → Type 0}
+    {readings_in : C → Option (List ℕ)}
     {until n reading : ℕ} {a b c : DaemonState W C}
     → TakesEarly takings_in gives_in readings_in until n a b
-    → Rests takings_in gives_in reading until b c
+    → Rests takings_in gives_in rested_in reading until b c
     → TakesEarly takings_in gives_in readings_in until n a c
 unfolding turns_rest
 early_rest p q = record { taken = turns_rest p.taken q; early = p.early }
 
 -- one more early turn and its rest
 rests_more : {W C : Type 0} {takings_in : W → Option (List Taking)}
-    {gives_in : W → Option (List Give)} {readings_in : C → Option (List ℕ)}
+    {gives_in : W → Option (List Give)} {rested_in : W → W → ℕ → Type 0}
+    {readings_in : C → Option (List ℕ)}
     {until reading : ℕ} (n : ℕ) (a b c d : DaemonState W C)
-    → RestsBehind takings_in gives_in readings_in until n a b → reading < until
+    → RestsBehind takings_in gives_in rested_in readings_in until n a b → reading < until
     → TakesTurnAt takings_in gives_in readings_in reading b c
-    → Rests takings_in gives_in reading until c d
-    → RestsBehind takings_in gives_in readings_in until (n + 1) a d
-rests_more {takings_in = takings_in} {gives_in} {readings_in} {until} {reading}
+    → Rests takings_in gives_in rested_in reading until c d
+    → RestsBehind takings_in gives_in rested_in readings_in until (n + 1) a d
+rests_more {takings_in = takings_in} {gives_in} {rested_in} {readings_in} {until} {reading}
     n a b c d p early turn rest =
     let next : suc n ≡ n + 1 = omega arith in
-    subst (λ (k : ℕ). RestsBehind takings_in gives_in readings_in until k a d) next
+    subst (λ (k : ℕ). RestsBehind takings_in gives_in rested_in readings_in until k a d) next
     (b, p, record { reading = reading; early = early; turned = c; turn = turn; rest = rest })
 
 -- the same of all that was attended
 pub attended_more : {W C : Type 0} {takings_in : W → Option (List Taking)}
-    {gives_in : W → Option (List Give)} {readings_in : C → Option (List ℕ)}
+    {gives_in : W → Option (List Give)} {rested_in : W → W → ℕ → Type 0}
+    {readings_in : C → Option (List ℕ)}
     {until n before reading : ℕ} {a b c d : DaemonState W C}
-    → Attended takings_in gives_in readings_in until n before a b
+    → Attended takings_in gives_in rested_in readings_in until n before a b
     → TakesTurnAt takings_in gives_in readings_in reading b c
     → nat_le until reading ≡ false → reading < until
-    → Rests takings_in gives_in reading until c d
-    → Attended takings_in gives_in readings_in until (n + 1) reading a d
+    → Rests takings_in gives_in rested_in reading until c d
+    → Attended takings_in gives_in rested_in readings_in until (n + 1) reading a d
 unfolding early_more early_rest turns_rest turns_both
 attended_more {n = n} {a = a} {b} {c} {d} p turn late early rest = record {
   early = early_rest (early_more p.early turn late) rest;
@@ -223,11 +230,12 @@ by_end {W} {C} {takings_in} {gives_in} {readings_in} {config} {lease} {wire} {cl
 
 -- a daemon that has served goes on by what was attended
 pub served_until : {W C : Type 0} {takings_in : W → Option (List Taking)}
-    {gives_in : W → Option (List Give)} {readings_in : C → Option (List ℕ)}
+    {gives_in : W → Option (List Give)} {rested_in : W → W → ℕ → Type 0}
+    {readings_in : C → Option (List ℕ)}
     {config : ConfigModel} {lease : Option ℕ} {wire : W} {clock : C} {until reading n : ℕ}
     {a b : DaemonState W C}
     (h : HasServed takings_in gives_in readings_in config lease wire clock n a)
-    → AttendsUntil takings_in gives_in readings_in until reading a b
+    → AttendsUntil takings_in gives_in rested_in readings_in until reading a b
     → ServesUntil takings_in gives_in readings_in config lease wire clock n h.turns h.gives
     until reading b
 served_until h p = by_end h p.early p.last

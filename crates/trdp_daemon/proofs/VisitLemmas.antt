@@ -12,7 +12,7 @@ use Rattle.trdp_text.specs.declared.fault.LineFault.{LineFault}
 use Rattle.trdp_text.specs.declared.fault.LineFault.TheVariants.{OutOfMemory}
 use Rattle.trdp_model.specs.declared.event.Event.{Event}
 use Rattle.trdp_text.specs.EventBytes.{carries_bytes}
-use Rattle.trdp_text.specs.Lines.{Reads}
+use Rattle.trdp_text.specs.Lines.{ReadsOrSkips}
 use Rattle.trdp_text.specs.declared.operator_line.OperatorLine.{OperatorLine}
 use Rattle.trdp_text.specs.declared.operator_line.Question.{Question}
 use Rattle.trdp_text.specs.PortLines.{OperatorSays, Orders, Asks, operator_line_model}
@@ -43,7 +43,7 @@ use Rattle.trdp_daemon.proofs.TellingLemmas.{silence_both}
 -- what a line that was read means
 pub reads_ok :
     (meaning : Result (Option EventModel) LineFault) (read known : Option Event)
-    → Reads meaning (Ok read) → read ≡ known → meaning ≡ Ok (option_map event_model known)
+    → ReadsOrSkips meaning (Ok read) → read ≡ known → meaning ≡ Ok (option_map event_model known)
 reads_ok (Ok said) read known reads is =
     ap (λ e. let r : Result (Option EventModel) LineFault = Ok e in r)
     (sym reads ∙ ap (option_map event_model) is)
@@ -131,7 +131,8 @@ line_lost {W} {takings_in} {gives_in} {a} {b} old new slot event effect lives ca
 
 pub control_refused : {W : Type 0} {takings_in : W → Option (List Taking)}
     {gives_in : W → Option (List Give)} {a b : Link W} (old new : Service) (slot : ℕ) (from : Place)
-    (meaning : Result (Option EventModel) LineFault) (fault : LineFault) → Reads meaning (Err fault)
+    (meaning : Result (Option EventModel) LineFault) (fault : LineFault)
+    → ReadsOrSkips meaning (Err fault)
     → service_state new ≡ lives_still (service_state old) slot
     → Carries takings_in gives_in a b [] (fault_telling (Control slot) from fault)
     → ComesWith takings_in gives_in old new a b

@@ -3,7 +3,8 @@ use Rattle.std.specs.Prelude.{◌≡◌, ℕ, List, Option, length, map}
 use Rattle.std.specs.List.{flat_map}
 use Rattle.trdp_dataset.specs.Configs.{ConfigModel}
 use Rattle.trdp_daemon.specs.declared.totals.Totals.{Totals}
-use Rattle.trdp_wire.specs.Told.{TellsMore, Taking, Give}
+use Rattle.trdp_base.specs.Reported.{TellsMore}
+use Rattle.trdp_wire.specs.Told.{Taking, Give}
 use Rattle.trdp_daemon.specs.Counted.{TurnsCounted}
 use Rattle.trdp_daemon.specs.Counting.{no_totals, totals_after}
 use Rattle.trdp_daemon.specs.Effects.{ServiceState}

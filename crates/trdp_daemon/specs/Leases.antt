@@ -22,6 +22,15 @@ abbrev pub is_silent : ServiceState → ℕ → Bool
 is_silent service slot =
     has_run_out service.lease service.reading (contact_of service.contacts slot)
 
+-- the same of the slot of a port; at a port of no slot nobody is silent
+unfoldable pub is_silent_at : ServiceState → Port → Bool
+is_silent_at service Pd = false
+is_silent_at service Md = false
+is_silent_at service (PdGroup group) = false
+is_silent_at service (MdGroup group) = false
+is_silent_at service Operator = false
+is_silent_at service (Control slot) = is_silent service slot
+
 -- the latest line of a slot is forgotten, and with it where its application is
 abbrev pub forgotten : ServiceState → ℕ → ServiceState
 forgotten service slot = with_contact service slot None

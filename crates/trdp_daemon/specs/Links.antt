@@ -1,7 +1,8 @@
 -- What came and went at a link.
 use Rattle.std.specs.Prelude.{◌≡◌, List, map, Option}
 use Rattle.trdp_daemon.specs.declared.link.Link.{Link}
-use Rattle.trdp_wire.specs.Told.{TellsMore, Taking, Give}
+use Rattle.trdp_base.specs.Reported.{TellsMore}
+use Rattle.trdp_wire.specs.Told.{Taking, Give}
 use Rattle.trdp_daemon.specs.Counting.{totals_after}
 use Rattle.trdp_daemon.specs.Effects.{Telling}
 

@@ -14,8 +14,8 @@ use Rattle.trdp_daemon.specs.declared.totals.Totals.{Totals}
 use Rattle.trdp_daemon.specs.Effects.{ServiceState, contact_of}
 
 -- the most bytes of an answer: those of a datagram in one frame of Ethernet
-abbrev pub answer_room : ℕ
-answer_room = 1472
+abbrev pub frame_room : ℕ
+frame_room = 1472
 
 -- the answer about a daemon's totals, without the end of the line
 abbrev pub text_of_totals : Totals → List ℕ

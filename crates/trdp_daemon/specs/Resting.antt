@@ -21,12 +21,14 @@ pub record IsIdleTime (slots : List SlotState) (reading until time : ℕ) : Type
   pub is_next : IsNextDue slots next
   pub time_is : time ≡ rest_end until next - reading
 
--- the wire was asked for a rest, as long as nothing is due from this reading of the clock on, up to
--- `until`; nothing was taken, given, counted or read
+-- the wire was asked for one rest, as long as nothing is due from this reading of the clock on, up
+-- to `until`; nothing was taken, given, counted or read. The wire says by this function what a rest
+-- makes of it
 pub record Rests {W C : Type 0} (takings_in : W → Option (List Taking))
-    (gives_in : W → Option (List Give)) (reading until : ℕ) (old new : DaemonState W C)
-    : Type 0 where
+    (gives_in : W → Option (List Give)) (rested_in : W → W → ℕ → Type 0) (reading until : ℕ)
+    (old new : DaemonState W C) : Type 0 where
   pub asked : IsIdleTime old.service.node.slots reading until new.asked
+  pub rested : rested_in old.wire new.wire new.asked
   pub takes_nothing : takings_in new.wire ≡ takings_in old.wire
   pub gives_nothing : gives_in new.wire ≡ gives_in old.wire
   pub service : new.service ≡ old.service
@@ -45,21 +47,23 @@ pub record TakesTurnAt {W C : Type 0} (takings_in : W → Option (List Taking))
 -- one turn was taken, at a reading of the clock before `until`, and from that reading on the wire
 -- was asked for a rest
 pub record TurnsAndRests {W C : Type 0} (takings_in : W → Option (List Taking))
-    (gives_in : W → Option (List Give)) (readings_in : C → Option (List ℕ)) (until : ℕ)
+    (gives_in : W → Option (List Give)) (rested_in : W → W → ℕ → Type 0) (readings_in : C → Option (List ℕ)) (until : ℕ)
     (old new : DaemonState W C) : Type 0 where
   pub reading : ℕ
   pub early : reading < until
   pub turned : DaemonState W C
   pub turn : TakesTurnAt takings_in gives_in readings_in reading old turned
-  pub rest : Rests takings_in gives_in reading until turned new
+  pub rest : Rests takings_in gives_in rested_in reading until turned new
 
 -- n such turns, with a rest after each
 abbrev pub RestsBehind : {W C : Type 0} → (W → Option (List Taking)) → (W → Option (List Give))
-    → (C → Option (List ℕ)) → ℕ → ℕ → DaemonState W C → DaemonState W C → Type 0
-RestsBehind takings_in gives_in readings_in until zero old new = new ≡ old
-RestsBehind {W} {C} takings_in gives_in readings_in until (suc n) old new =
-    (before : DaemonState W C) × RestsBehind takings_in gives_in readings_in until n old before
-    × TurnsAndRests takings_in gives_in readings_in until before new
+    → (W → W → ℕ → Type 0) → (C → Option (List ℕ)) → ℕ → ℕ → DaemonState W C → DaemonState W C
+    → Type 0
+RestsBehind takings_in gives_in rested_in readings_in until zero old new = new ≡ old
+RestsBehind {W} {C} takings_in gives_in rested_in readings_in until (suc n) old new =
+    (before : DaemonState W C)
+    × RestsBehind takings_in gives_in rested_in readings_in until n old before
+    × TurnsAndRests takings_in gives_in rested_in readings_in until before new
 
 -- all of these turns begin before the reading `until` of the clock
 abbrev pub AreEarly : ℕ → List Turn → Type 0
@@ -92,12 +96,12 @@ last_reading turns = reading_behind 0 turns
 -- 2^64 - 1 of them, all of which began before. After each but that one the wire was asked for a
 -- rest. The last turn began at `reading`
 pub record AttendsUntil {W C : Type 0} (takings_in : W → Option (List Taking))
-    (gives_in : W → Option (List Give)) (readings_in : C → Option (List ℕ)) (until reading : ℕ)
+    (gives_in : W → Option (List Give)) (rested_in : W → W → ℕ → Type 0) (readings_in : C → Option (List ℕ)) (until reading : ℕ)
     (old new : DaemonState W C) : Type 0 where
   pub before : ℕ
   pub then_at : DaemonState W C
   pub early : TakesEarly takings_in gives_in readings_in until before old then_at
-  pub rested : RestsBehind takings_in gives_in readings_in until before old then_at
+  pub rested : RestsBehind takings_in gives_in rested_in readings_in until before old then_at
   pub last : TakesLast takings_in gives_in readings_in until reading then_at new
       ⊎ ((before ≡ 2 ^ 64 - 1) × (new ≡ then_at) × (reading ≡ last_reading early.taken.turns))
 

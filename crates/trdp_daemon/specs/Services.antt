@@ -6,7 +6,7 @@ use Rattle.trdp_engine.specs.NodeStates.{uncounted}
 use Rattle.trdp_model.specs.Events.{EventModel}
 use Rattle.trdp_wire.specs.declared.port.Port.{Port}
 use Rattle.trdp_wire.specs.declared.port.Port.TheVariants.{Pd, Md}
-use Rattle.trdp_daemon.specs.declared.home.Home.{Home}
+use Rattle.trdp_daemon.specs.declared.home.HomePlaces.{HomePlaces}
 use Rattle.trdp_daemon.specs.declared.link.Link.{Link}
 use Rattle.trdp_daemon.specs.declared.service.Service.{Service}
 use Rattle.trdp_wire.specs.Ports.{place_of_port}
@@ -15,7 +15,7 @@ use Rattle.trdp_daemon.specs.Effects.{ServiceState, Effect, Loss, TextsLost, eve
 use Rattle.trdp_daemon.specs.Counted.{TurnCounted, VisitsCounted}
 use Rattle.trdp_daemon.specs.Counting.{totals_after}
 use Rattle.trdp_daemon.specs.Links.{Carries}
-use Rattle.trdp_daemon.specs.Questions.{answer_room}
+use Rattle.trdp_daemon.specs.Questions.{frame_room}
 use Rattle.trdp_daemon.specs.Turns.{Visit, visit_effect, visits_effect, Turn, takings_of}
 use Rattle.trdp_daemon.specs.Turns.{turn_effect, port_and_room, with_room, TakesAt, TurnTakesAt}
 
@@ -86,11 +86,11 @@ pub record TakesTurn {W : Type 0} (takings_in : W → Option (List Taking))
 
 -- the destinations of process data and of message data that come to this node: where the sockets
 -- of these ports are bound
-abbrev pub IsHome : ConfigModel → Home → Type 0
+abbrev pub IsHome : ConfigModel → HomePlaces → Type 0
 IsHome config home = (home.pd ≡ place_of_port config Pd) × (home.md ≡ place_of_port config Md)
 
 -- telegrams go to where the node's configuration says, and there is room for any answer to the
 -- operator's questions, and for that to the reset of a slot
 abbrev pub IsSoundService : Service → Type 0
-IsSoundService s = IsHome s.node.config s.home × (answer_room ≤ vec_capacity s.answer)
+IsSoundService s = IsHome s.node.config s.home × (frame_room ≤ vec_capacity s.answer)
     × (0 < s.resets.row_room + length s.resets.records)

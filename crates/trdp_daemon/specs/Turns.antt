@@ -1,6 +1,7 @@
 -- A daemon's turns.
 use Rattle.std.specs.Prelude.{◌≡◌, ℕ, nat_lt, Bool, true, false, List, [], ◌∷◌, length, map}
 use Rattle.std.specs.Prelude.{Option, None, min, max, replicate}
+use Rattle.trdp_base.specs.Limits.{line_limit}
 use Rattle.trdp_base.specs.Moments.{last_moment}
 use Rattle.trdp_dataset.specs.Configs.{ConfigModel}
 use Rattle.trdp_model.specs.Events.{EventModel, MomentIs}
@@ -69,7 +70,7 @@ takings_of turn = map (λ visit. visit.taking) turn.visits
 
 -- the room of a take, in bytes: for any line of a control connection, and for any datagram over UDP
 abbrev pub take_room : ℕ
-take_room = 140000
+take_room = line_limit
 
 -- the port of a take, and how many bytes it has room for
 abbrev pub port_and_room : Visit → Port × ℕ

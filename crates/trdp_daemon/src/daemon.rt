@@ -10,14 +10,14 @@ use crate::service::Service;
 use crate::totals::Totals;
 use std::alloc::{AllocError, Global};
 use std::marker::Model;
-use trdp_base::MOMENT_MAX;
+use trdp_base::{LINE_MAX, MOMENT_MAX};
 use trdp_dataset::NodeConfig;
 use trdp_engine::{Event, Node};
-use trdp_wire::{Clock, Port, Wire, ports_of};
+use trdp_wire::{Clock, Port, WatchedWire, Wire, ports_of};
 
 /// Room for what a take takes, in bytes: for any line of a control connection, which is more than
 /// the longest datagram over UDP.
-const TAKE_ROOM: usize = 140_000;
+const TAKE_ROOM: usize = LINE_MAX;
 
 /// A node that takes its datagrams from a wire and its time from a clock, and gives the wire what
 /// the node sends.
@@ -63,7 +63,7 @@ impl<W: Wire, C: Clock> Daemon<W, C> {
     ghost use Rattle.std.specs.Prelude.{◌≡◌, ◌+◌, ℕ, IfOk, IfErr, Option, None};
     ghost use Rattle.trdp_dataset.specs.Configs.{ConfigModel};
     ghost use Rattle.trdp_daemon.specs.Daemons.{HasServed, TakesTurns, opened_daemon};
-    ghost use Rattle.trdp_daemon.specs.Resting.{AttendsUntil, Rests, ServesUntil, TakesTurnAt};
+    ghost use Rattle.trdp_daemon.specs.Resting.{TakesTurnAt};
 
     /// A daemon that has taken no turn: its node is at moment 0, and no slot has a control place.
     /// It has no lease: the application of a slot may be silent for ever.
@@ -168,28 +168,6 @@ impl<W: Wire, C: Clock> Daemon<W, C> {
         self.totals()
     }
 
-    /// Takes turns until one begins at the reading `until` of the clock or later, in microseconds,
-    /// and at most 2^64 - 1 of them. After each turn but that one the wire is asked for a rest:
-    /// until a datagram may be there, and at most until something is due or `until` comes. Returns
-    /// the reading of the last turn.
-    pub fn attend(&mut self, until: u64) -> u64
-        ensures turns { AttendsUntil W.takings W.gives C.readings until result self.old self.new }
-        ensures served { (config : ConfigModel) (lease : Option ℕ) (wire : W) (clock : C) (n : ℕ)
-            → (before : HasServed W.takings W.gives C.readings config lease wire clock n self.old)
-            → ServesUntil W.takings W.gives C.readings config lease wire clock
-            n before.turns before.gives until result self.new }
-    {
-        let mut reading = 0;
-        for _turn in 0..u64::MAX {
-            reading = self.timed_turn();
-            if until <= reading {
-                return reading;
-            }
-            self.rest(reading, until);
-        }
-        reading
-    }
-
     /// Takes one turn: the moment of a reading of the clock, and then one take at each port that
     /// is there when its turn in the order comes. Returns the reading.
     fn timed_turn(&mut self) -> u64
@@ -209,10 +187,39 @@ impl<W: Wire, C: Clock> Daemon<W, C> {
         }
         reading
     }
+}
+
+impl<W: WatchedWire, C: Clock> Daemon<W, C> {
+    ghost use Rattle.std.specs.Prelude.{◌≡◌, ℕ, Option};
+    ghost use Rattle.trdp_dataset.specs.Configs.{ConfigModel};
+    ghost use Rattle.trdp_daemon.specs.Daemons.{HasServed};
+    ghost use Rattle.trdp_daemon.specs.Resting.{AttendsUntil, Rests, ServesUntil};
+
+    /// Takes turns until one begins at the reading `until` of the clock or later, in microseconds,
+    /// and at most 2^64 - 1 of them. After each turn but that one the wire is asked for a rest:
+    /// until a datagram may be there, and at most until something is due or `until` comes. Returns
+    /// the reading of the last turn.
+    pub fn attend(&mut self, until: u64) -> u64
+        ensures turns { AttendsUntil W.takings W.gives W.rested C.readings until result self.old self.new }
+        ensures served { (config : ConfigModel) (lease : Option ℕ) (wire : W) (clock : C) (n : ℕ)
+            → (before : HasServed W.takings W.gives C.readings config lease wire clock n self.old)
+            → ServesUntil W.takings W.gives C.readings config lease wire clock
+            n before.turns before.gives until result self.new }
+    {
+        let mut reading = 0;
+        for _turn in 0..u64::MAX {
+            reading = self.timed_turn();
+            if until <= reading {
+                return reading;
+            }
+            self.rest(reading, until);
+        }
+        reading
+    }
 
     /// Rests from a reading of the clock while nothing is due, at most up to `until`.
     fn rest(&mut self, reading: u64, until: u64)
-        ensures { Rests W.takings W.gives reading until self.old self.new }
+        ensures { Rests W.takings W.gives W.rested reading until self.old self.new }
     {
         let most = self.service.idle_time(reading, until);
         self.link.rest(most);

@@ -8,7 +8,7 @@ use trdp_wire::{Port, place_of_port};
 
 /// Where datagrams of process data and of message data that come to a node were sent to.
 #[derive(Clone, Copy)]
-pub(crate) struct Home {
+pub(crate) struct HomePlaces {
     /// The node's address with its port of process data.
     pub(crate) pd: Place,
     /// The node's address with its port of message data.
@@ -16,10 +16,10 @@ pub(crate) struct Home {
 }
 
 /// The destinations at the node of a configuration: where the sockets of these ports are bound.
-pub(crate) fn home_of(config: &NodeConfig) -> Home
+pub(crate) fn home_of(config: &NodeConfig) -> HomePlaces
     ensures { IsHome config.now result }
 {
-    Home {
+    HomePlaces {
         pd: place_of_port(config, Port::Pd),
         md: place_of_port(config, Port::Md),
     }

@@ -3,7 +3,7 @@
 
 ghost use Rattle.std.specs.Prelude.{◌≡◌};
 ghost use Rattle.trdp_daemon.specs.Leases.{end_effect, ended_effect, has_run_out, is_silent};
-ghost use Rattle.trdp_daemon.specs.Leases.{quiet_effect, silence_effect};
+ghost use Rattle.trdp_daemon.specs.Leases.{is_silent_at, quiet_effect, silence_effect};
 ghost use Rattle.trdp_daemon.specs.Services.{ComesWith, IsSoundService, service_state};
 
 use crate::contact::{Contact, contact_of};
@@ -27,8 +27,13 @@ impl Service {
         }
     }
 
-    /// Whether the lease has run out for the slot of a port, if that is a control port.
-    pub(crate) fn is_silent_at(&self, port: Port) -> bool {
+    /// Whether the lease has run out for the slot of a port by the reading of the turn, if that is
+    /// a control port: so it is, too, in the first turn after the daemon itself was stopped for
+    /// longer.
+    #[tactic(auto, unfolding(crate::specs::Leases::is_silent_at))]
+    pub(crate) fn is_silent_at(&self, port: Port) -> bool
+        ensures { result ≡ is_silent_at (service_state self.now) port }
+    {
         match port {
             Port::Control(slot) => self.is_silent(slot),
             Port::Pd | Port::Md | Port::PdGroup(_) | Port::MdGroup(_) | Port::Operator => false,

@@ -20,7 +20,7 @@
 //! came. An answer changes nothing and never allocates (`specs/Questions`, `specs/Counted`).
 //!
 //! A slot is reset where its application ends. A wire whose applications have connections hands in
-//! their ends ([`Wire::has_ended`]), and nothing is sent for such a reset. Over another wire a
+//! their ends ([`Wire::find`]), and nothing is sent for such a reset. Over another wire a
 //! lease ([`Daemon::with_lease`]) resets a slot once for each silence that is too long, by the
 //! clock of the turns. Any line at the slot's control port counts as a sign of life, also one with
 //! a fault.
@@ -28,10 +28,10 @@
 //! `trdp_controls` puts connections in the place of control ports; `trdp_program` runs the daemon.
 //!
 //! **Proved**, for each wire and clock that report their calls: what a turn takes, offers and
-//! counts, and how long a rest the daemon notes as asked for.
+//! counts; and that between two turns the wire rests once, for as long as nothing is due, as it
+//! says itself what a rest does ([`WatchedWire`]).
 //!
-//! **Tested**: that a wire is handed the rests that the daemon notes (one line of `Link::rest`),
-//! since a wire reports no rests; and that with ample memory nothing is lost (`trdp_node_tests`).
+//! **Tested**: that with ample memory nothing is lost (`trdp_node_tests`).
 //!
 //! **Trusted**: nothing here. What a wire and a clock of the system do is trusted in `trdp_udp`.
 #![tactic(auto)]
@@ -39,6 +39,7 @@
 mod answer;
 mod contact;
 mod daemon;
+mod hearing;
 mod home;
 mod laws;
 mod lease;
@@ -56,8 +57,8 @@ pub use laws::{
 };
 pub use totals::Totals;
 pub use trdp_memory::{MemoryClock, MemorySockets, MemoryWire, Offers, Rest, SocketRow};
-pub use trdp_udp::{RestingWire, RunClock, SystemSockets, UdpWire};
+pub use trdp_udp::{BoundPorts, RestingWire, RunClock, SystemSockets, UdpWire};
 pub use trdp_wire::{
-    BindFault, Clock, Groups, Missing, Port, Refusal, SocketFault, Sockets, Unread, Wire,
-    WireFault, control_number, fail,
+    BindFault, Clock, GiveRefusal, GroupAddresses, Missing, Port, Sleeper, SocketFault, Sockets,
+    Unread, WatchedWire, Wire, WireFault, control_number, fail,
 };

@@ -10,7 +10,7 @@ ghost use Rattle.trdp_daemon.specs.Links.{Carries};
 
 use crate::totals::Totals;
 use trdp_base::Place;
-use trdp_wire::{Port, Wire, WireFault};
+use trdp_wire::{Port, WatchedWire, Wire, WireFault};
 
 /// A wire, with the totals of what came and went.
 #[derive(Drop)]
@@ -44,8 +44,9 @@ impl<W: Wire> Link<W> {
     }
 
     /// Takes the next datagram at a port, if one is there. It is put at the front of the room; the
-    /// answer is where it came from and how many bytes it has there. What came is counted. Where
-    /// `anew` is true, the wire looks for one whatever news it has of the port.
+    /// answer is where it came from and how many bytes it has there, and whether it is the end of
+    /// the application there. What came is counted. Where `anew` is true, the wire looks for one
+    /// whatever news it has of the port.
     ///
     /// # Errors
     /// `WireFault`, where the wire fails, which is counted.
@@ -54,35 +55,15 @@ impl<W: Wire> Link<W> {
         port: Port,
         anew: bool,
         room: &mut [u8],
-    ) -> Result<Option<(Place, usize)>, WireFault>
-        ensures within { IfOk result (λ found. IfSome found (λ f. f.1 ≤ length room.new)) }
+    ) -> (Result<Option<(Place, usize)>, WireFault>, bool)
+        ensures within { IfOk result.0 (λ found. IfSome found (λ f. f.1 ≤ length room.new)) }
         ensures takes { Carries W.takings W.gives self.old self.new
-            (taking_of port (W.ended self.new.wire port) result room.new ∷ []) silence }
+            (taking_of port (λ _. result.1) result.0 room.new ∷ []) silence }
         ensures asked { self.new.asked ≡ self.old.asked }
     {
-        self.renew(port, anew);
-        let taken = self.wire.take(port, room);
+        let (taken, is_end) = self.wire.find(port, anew, room);
         count_take(&mut self.totals, taken);
-        taken
-    }
-
-    /// Whether the application of a port that was at a place has ended.
-    pub(crate) fn has_ended(&self, port: Port, place: Place) -> bool
-        ensures { result ≡ W.ended self.now.wire port place }
-    {
-        self.wire.has_ended(port, place)
-    }
-
-    /// Notes that something may be at a port, if `anew` is true.
-    fn renew(&mut self, port: Port, anew: bool)
-        ensures takes_nothing { W.takings self.new.wire ≡ W.takings self.old.wire }
-        ensures gives_nothing { W.gives self.new.wire ≡ W.gives self.old.wire }
-        ensures totals { self.new.totals ≡ self.old.totals }
-        ensures asked { self.new.asked ≡ self.old.asked }
-    {
-        if anew {
-            self.wire.set_news(port, true);
-        }
+        (taken, is_end)
     }
 
     /// Offers a datagram to the wire. One at which the wire fails is counted, and lost.
@@ -95,24 +76,29 @@ impl<W: Wire> Link<W> {
         count_give(&mut self.totals, given.is_err());
     }
 
-    /// Asks the wire for a rest until a datagram may be there, of at most `most` microseconds, and
-    /// notes that length: what is noted is what the wire is handed.
-    pub(crate) fn rest(&mut self, most: u64)
-        ensures asked { self.new.asked ≡ most }
-        ensures takes_nothing { W.takings self.new.wire ≡ W.takings self.old.wire }
-        ensures gives_nothing { W.gives self.new.wire ≡ W.gives self.old.wire }
-        ensures totals { self.new.totals ≡ self.old.totals }
-    {
-        self.asked = most;
-        self.wire.rest(self.asked);
-    }
-
     /// Counts something that was lost because an allocation failed.
     pub(crate) fn miss(&mut self)
         ensures carried { Carries W.takings W.gives self.old self.new [] missing }
         ensures asked { self.new.asked ≡ self.old.asked }
     {
         self.totals.memory = one_more(self.totals.memory);
+    }
+}
+
+impl<W: WatchedWire> Link<W> {
+    ghost use Rattle.std.specs.Prelude.{◌≡◌};
+
+    /// Asks the wire once for a rest until a datagram may be there, of at most `most` microseconds,
+    /// and notes that length.
+    pub(crate) fn rest(&mut self, most: u64)
+        ensures asked { self.new.asked ≡ most }
+        ensures rests { W.rested self.old.wire self.new.wire self.new.asked }
+        ensures takes_nothing { W.takings self.new.wire ≡ W.takings self.old.wire }
+        ensures gives_nothing { W.gives self.new.wire ≡ W.gives self.old.wire }
+        ensures totals { self.new.totals ≡ self.old.totals }
+    {
+        self.asked = most;
+        self.wire.rest(self.asked);
     }
 }
 

@@ -6,7 +6,7 @@ ghost use Rattle.trdp_base.specs.NumberText.{text_of_number};
 ghost use Rattle.trdp_base.specs.declared.number.TheConstants.{NUMBER_LENGTH};
 ghost use Rattle.trdp_engine.specs.NodeStates.{uncounted};
 ghost use Rattle.trdp_model.specs.Slots.{slot_limit};
-ghost use Rattle.trdp_daemon.specs.Questions.{answer_room, slot_numbered, text_of_age};
+ghost use Rattle.trdp_daemon.specs.Questions.{frame_room, slot_numbered, text_of_age};
 ghost use Rattle.trdp_daemon.specs.Questions.{text_of_slot, text_of_slots, text_of_totals};
 ghost use Rattle.trdp_daemon.specs.Questions.{text_of_question, text_of_usage, text_of_usages};
 
@@ -17,7 +17,7 @@ use trdp_engine::{Kind, Node};
 use trdp_text::Question;
 
 /// The most bytes of an answer: those of a datagram in one frame of Ethernet.
-pub(crate) const ANSWER_ROOM: usize = 1_472;
+pub(crate) const FRAME_ROOM: usize = 1_472;
 
 /// Puts the answer to a question in place of what the list holds, with these totals and this
 /// reading of the clock.
@@ -30,14 +30,14 @@ pub(crate) fn put_answer(
     contacts: &[Option<Contact>],
     reading: u64,
 )
-    requires room { answer_room ≤ vec_capacity text.old }
+    requires room { frame_room ≤ vec_capacity text.old }
     ensures items { (lease : Option ℕ) → text.new.items ≡ text_of_question (record {
       node = uncounted node.now;
       contacts = contacts.now;
       reading = reading;
       lease = lease;
     }) totals question }
-    ensures len { vec_len text.new ≤ answer_room }
+    ensures len { vec_len text.new ≤ frame_room }
     ensures capacity { vec_capacity text.old ≤ vec_capacity text.new }
 {
     text.clear();
@@ -49,9 +49,9 @@ pub(crate) fn put_answer(
 
 /// Puts the line of the totals.
 fn put_totals(text: &mut Vec<u8>, totals: Totals)
-    requires room { vec_len text.old + answer_room ≤ vec_capacity text.old }
+    requires room { vec_len text.old + frame_room ≤ vec_capacity text.old }
     ensures items { text.new.items ≡ text.old.items ++ text_of_totals totals ++ codes "\n" }
-    ensures len { vec_len text.new ≤ vec_len text.old + answer_room }
+    ensures len { vec_len text.new ≤ vec_len text.old + frame_room }
     ensures capacity { vec_capacity text.old ≤ vec_capacity text.new }
 {
     put_count(text, b"taken ", totals.taken);
@@ -65,10 +65,10 @@ fn put_totals(text: &mut Vec<u8>, totals: Totals)
 /// Puts the lines of a node's slots, by a reading of the clock, slots rising: at most 16 of at most
 /// 73 bytes.
 fn put_slots(text: &mut Vec<u8>, node: &Node, contacts: &[Option<Contact>], reading: u64)
-    requires room { vec_len text.old + answer_room ≤ vec_capacity text.old }
+    requires room { vec_len text.old + frame_room ≤ vec_capacity text.old }
     ensures items { text.new.items
         ≡ text.old.items ++ text_of_slots reading contacts.now 0 node.now.slots }
-    ensures len { vec_len text.new ≤ vec_len text.old + answer_room }
+    ensures len { vec_len text.new ≤ vec_len text.old + frame_room }
     ensures capacity { vec_capacity text.old ≤ vec_capacity text.new }
 {
     for slot in 0..node.slots() {

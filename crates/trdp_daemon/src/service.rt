@@ -13,14 +13,14 @@ ghost use Rattle.trdp_daemon.specs.Effects.{event_effect, is_reset, missing, tel
 ghost use Rattle.trdp_daemon.specs.Resting.{IsIdleTime};
 ghost use Rattle.trdp_daemon.specs.Services.{Comes, ComesTold, ComesWith, IsSoundService};
 ghost use Rattle.trdp_daemon.specs.Services.{TakesAtPorts, service_state};
-ghost use Rattle.trdp_daemon.specs.Questions.{answer_room, text_of_question};
+ghost use Rattle.trdp_daemon.specs.Questions.{frame_room, text_of_question};
 ghost use Rattle.trdp_daemon.specs.Turns.{begun, opened_service, take_room};
 ghost use Rattle.trdp_daemon.specs.Visits.{came_effect, control_effect, datagram_effect};
 ghost use Rattle.trdp_daemon.specs.Visits.{operator_effect, question_effect};
 
 use crate::answer::{operator_text, refuse};
 use crate::contact::Contact;
-use crate::home::{Home, home_of};
+use crate::home::{HomePlaces, home_of};
 use crate::link::Link;
 use crate::lists::Lists;
 use crate::question::put_answer;
@@ -39,7 +39,7 @@ pub(crate) struct Service {
     /// The node.
     pub(crate) node: Node,
     /// Where telegrams go to at the node.
-    pub(crate) home: Home,
+    pub(crate) home: HomePlaces,
     /// The latest line of each of the slots that a node has at most; None before the first, and
     /// from the end of an application or of its lease up to the next.
     pub(crate) contacts: Vec<Option<Contact>>,
@@ -56,6 +56,15 @@ pub(crate) struct Service {
     text: Vec<u8>,
     /// The answer to a question of the operator, with room for any, so that none allocates.
     pub(crate) answer: Vec<u8>,
+}
+
+/// Who said what a take found.
+#[derive(Clone, Copy)]
+struct Speaker {
+    /// Where it came from.
+    from: Place,
+    /// Whether it is the end of the application there.
+    is_end: bool,
 }
 
 impl Service {
@@ -132,10 +141,11 @@ impl Service {
         // Where a take that finds nothing would reset the slot, the wire has to look: the daemon
         // itself may have been stopped since the system last reported news.
         let anew = self.is_silent_at(port);
-        match link.take(port, anew, room) {
+        let (found, is_end) = link.take(port, anew, room);
+        match found {
             Ok(Some((from, len))) => {
                 let (bytes, _) = room.split_at(len);
-                self.take_found(buffer, port, from, bytes, link);
+                self.take_found(buffer, port, Speaker { from, is_end }, bytes, link);
             }
             Ok(None) => self.take_nothing(port, link),
             Err(_) => {}
@@ -147,7 +157,7 @@ impl Service {
         &mut self,
         buffer: &mut Vec<u8>,
         port: Port,
-        from: Place,
+        speaker: Speaker,
         bytes: &[u8],
         link: &mut Link<W>,
     )
@@ -155,13 +165,13 @@ impl Service {
         ensures sound { IsSoundService self.new }
         ensures config { self.new.node.config ≡ self.old.node.config }
         ensures comes { ComesWith W.takings W.gives self.old self.new link.old link.new
-            (came_effect (W.ended link.old.wire port from) (service_state self.old)
-            link.old.totals port from bytes.now) }
+            (came_effect speaker.is_end (service_state self.old) link.old.totals port speaker.from
+            bytes.now) }
     {
-        if link.has_ended(port, from) {
+        if speaker.is_end {
             self.take_end(port, link);
         } else {
-            self.take_datagram(buffer, port, from, bytes, link);
+            self.take_datagram(buffer, port, speaker.from, bytes, link);
         }
     }
 
@@ -251,7 +261,7 @@ impl Service {
         ensures sound { IsSoundService self.new }
         ensures node { self.new.node ≡ self.old.node }
         ensures short { length (text_of_question (service_state self.old) link.old.totals question)
-            ≤ answer_room }
+            ≤ frame_room }
         ensures comes { Comes W.takings W.gives self.old self.new link.old link.new []
             (question_effect (service_state self.old) from link.old.totals question) }
     {

@@ -12,7 +12,7 @@ use Rattle.trdp_wire.specs.Failures.{failure_after, one_more_if}
 use Rattle.trdp_memory.specs.MemoryWires.{next_take_fails, next_arrival, is_give_beyond}
 use Rattle.trdp_memory.specs.MemoryWires.{next_give_fails, after_take, after_give}
 use Rattle.trdp_memory.specs.MemoryWires.{after_rest, refusal_behind}
-use Rattle.trdp_wire.specs.declared.refusal.Refusal.{Refusal}
+use Rattle.trdp_wire.specs.declared.refusal.GiveRefusal.{GiveRefusal}
 use Rattle.trdp_memory.specs.declared.rows.Rest.{Rest}
 
 by_true : {X : Type 0} (b : Bool) (x y : X) → b ≡ true → x ≡ (if b then x else y)
@@ -126,7 +126,7 @@ fails_beyond w bytes failed beyond is =
     and_true true = refl
     and_true false = refl
 
-pub give_beyond : (w : MemoryWireState) (give : Give) (failures : ℕ) (refusal : Option Refusal)
+pub give_beyond : (w : MemoryWireState) (give : Give) (failures : ℕ) (refusal : Option GiveRefusal)
     → is_give_beyond w (length give.offer.bytes) ≡ true
     → failures ≡ one_more_if give.failed w.failures → refusal ≡ refusal_behind w give
     → (let x : MemoryWireState =
@@ -158,7 +158,7 @@ fails_within w bytes fails failed within which is =
     && (b || is_failing w.laid_down.failing_gives (length w.gives + 1))) (sym within)
 
 pub give_within : (w : MemoryWireState) (give : Give) (gives : List Give)
-    (failures room byte_room : ℕ) (refusal : Option Refusal)
+    (failures room byte_room : ℕ) (refusal : Option GiveRefusal)
     → is_give_beyond w (length give.offer.bytes) ≡ false
     → gives ≡ w.gives ++ give ∷ [] → failures ≡ one_more_if give.failed w.failures
     → refusal ≡ refusal_behind w give → room ≡ w.give_room - 1

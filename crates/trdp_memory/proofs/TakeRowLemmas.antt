@@ -19,8 +19,8 @@ use Rattle.trdp_memory.specs.declared.rows.TakeAnswer.TheVariants.{Nothing as Ro
 use Rattle.trdp_memory.specs.declared.rows.TakeAnswer.TheVariants.{Came as RowCame}
 use Rattle.trdp_memory.specs.MemoryWires.{ArrivalModel, arrives_at, arrival_for, cut_to, takes_at}
 use Rattle.trdp_wire.specs.Ports.{is_port}
-use Rattle.trdp_memory.specs.Rows.{arrived_of, row_taking, nowhere, IsLaidDown, AreLaidDown}
-use Rattle.trdp_wire.specs.Told.{Arrived, Nothing, Came, Taking, taking_at}
+use Rattle.trdp_memory.specs.Rows.{arrived_of, row_taking, IsLaidDown, AreLaidDown}
+use Rattle.trdp_wire.specs.Told.{nowhere, Arrived, Nothing, Came, Taking, taking_at}
 
 -- the first element that passes is at the first index at which one does
 found_none : {X : Type 0} (p : X → Bool) (xs : List X) → position p xs ≡ None → find p xs ≡ None

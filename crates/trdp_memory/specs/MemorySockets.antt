@@ -9,7 +9,8 @@ use Rattle.trdp_memory.specs.declared.memory_sockets.SocketRow.TheVariants as ro
 use Rattle.trdp_wire.specs.declared.socket_fault.SocketFault.{SocketFault}
 use Rattle.trdp_memory.specs.MemoryWires.{told, no_way_if}
 use Rattle.trdp_wire.specs.Sockets.{SocketCall, Binds, TakesFrom, GivesFrom, Watches, Waits}
-use Rattle.trdp_wire.specs.Told.{TellsMore, Nothing, Came}
+use Rattle.trdp_base.specs.Reported.{TellsMore}
+use Rattle.trdp_wire.specs.Told.{Nothing, Came}
 
 -- the call that is remembered so
 abbrev pub call_of : SocketRow → SocketCall

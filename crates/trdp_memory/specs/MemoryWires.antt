@@ -5,7 +5,7 @@ use Rattle.std.specs.Prelude.{take, drop, length, pos}
 use Rattle.std.specs.List.{find, list_any, count_by}
 use Rattle.trdp_base.specs.declared.place.Place.{Place}
 use Rattle.trdp_wire.specs.declared.port.Port.{Port}
-use Rattle.trdp_wire.specs.declared.refusal.Refusal.{Refusal}
+use Rattle.trdp_wire.specs.declared.refusal.GiveRefusal.{GiveRefusal}
 use Rattle.trdp_wire.specs.declared.socket_fault.SocketFault.{SocketFault}
 use Rattle.trdp_memory.specs.declared.rows.Rest.{Rest}
 use Rattle.trdp_wire.specs.Failures.{failure_after, one_more_if}
@@ -38,7 +38,7 @@ pub record MemoryWireState : Type 0 where
   pub rests : List Rest
   pub tells : Bool
   pub failures : ℕ
-  pub refusal : Option Refusal
+  pub refusal : Option GiveRefusal
   pub take_room : ℕ
   pub give_room : ℕ
   pub byte_room : ℕ
@@ -142,7 +142,7 @@ abbrev pub no_way_if : Bool → Option SocketFault
 no_way_if refused = if refused then Some no_way else None
 
 -- the latest refusal of a wire after a give: this one, if it failed
-abbrev pub refusal_behind : MemoryWireState → Give → Option Refusal
+abbrev pub refusal_behind : MemoryWireState → Give → Option GiveRefusal
 refusal_behind wire give =
     refusal_after give.offer.port give.offer.to (no_way_if give.failed) wire.refusal
 
@@ -164,8 +164,8 @@ after_give wire give = if is_give_beyond wire (length give.offer.bytes)
     }
 
 -- a rest that a wire is asked for now
-abbrev pub rest_of : MemoryWireState → ℕ → Rest
-rest_of wire most = record { takes = length wire.takings; most = most }
+abbrev pub asked_rest : MemoryWireState → ℕ → Rest
+asked_rest wire most = record { takes = length wire.takings; most = most }
 
 -- a wire after a rest; beyond its room it isn't remembered
 unfoldable pub after_rest : MemoryWireState → Rest → MemoryWireState

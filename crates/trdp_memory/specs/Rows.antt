@@ -8,17 +8,14 @@ use Rattle.trdp_memory.specs.declared.rows.TakeAnswer.TheVariants.{Nothing as Ro
 use Rattle.trdp_memory.specs.declared.rows.TakeAnswer.TheVariants.{Came as RowCame}
 use Rattle.trdp_memory.specs.declared.rows.GiveRow.{GiveRow}
 use Rattle.trdp_memory.specs.MemoryWires.{ArrivalModel, cut_to}
-use Rattle.trdp_wire.specs.Told.{Arrived, Failed, Nothing, Taking, Give, offer_to, taking_at}
+use Rattle.trdp_wire.specs.Told.{Arrived, Failed, Nothing, Taking, Give, nowhere, offer_to}
+use Rattle.trdp_wire.specs.Told.{taking_at}
 
 -- what a take answered, where these were laid down
 abbrev pub arrived_of : List ArrivalModel → TakeAnswer → Arrived
 arrived_of arrivals RowFailed = Failed
 arrived_of arrivals RowNothing = Nothing
 arrived_of arrivals (RowCame index len) = cut_to len (slice_get arrivals index)
-
--- at a wire in memory no application has ended
-abbrev pub nowhere : Place → Bool
-nowhere = λ place. false
 
 -- the taking of a row
 abbrev pub row_taking : List ArrivalModel → TakeRow → Taking

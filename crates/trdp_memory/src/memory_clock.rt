@@ -2,10 +2,10 @@
 
 ghost use Rattle.std.specs.Prelude.{◌≡◌, ◌+◌, ◌∷◌, [], min, ◌-◌, ◌^◌, IfOk, IfSome, Some, true};
 ghost use Rattle.trdp_memory.specs.MemoryClocks.{reading_at, told_readings, told_sleeps};
-ghost use Rattle.trdp_wire.specs.Told.{TellsMore};
+ghost use Rattle.trdp_base.specs.Reported.{TellsMore};
 
 use std::alloc::{AllocError, Global};
-use trdp_wire::Clock;
+use trdp_wire::{Clock, Sleeper};
 
 /// A clock that reads the numbers of a list in order, and then the last one again and again; of an
 /// empty list it reads 0. It reports its readings, up to 2^64 - 1 of them, and then none. It
@@ -73,7 +73,9 @@ impl Clock for MemoryClock {
         }
         reading
     }
+}
 
+impl Sleeper for MemoryClock {
     fn sleep(&mut self, micros: u64)
         ensures told { TellsMore (told_sleeps self.old) (told_sleeps self.new) (micros ∷ []) }
         ensures reads_nothing { told_readings self.new ≡ told_readings self.old }

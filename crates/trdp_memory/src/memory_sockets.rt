@@ -3,8 +3,9 @@
 ghost use Rattle.std.specs.Prelude.{◌≡◌, ◌≤◌, ◌∷◌, [], length, map, IfOk, IfSome};
 ghost use Rattle.std.specs.Prelude.{Some, None};
 ghost use Rattle.trdp_memory.specs.MemorySockets.{Notes, call_of, give_fault, told_calls};
-ghost use Rattle.trdp_wire.specs.Sockets.{GivesFrom, TakesFrom, fault_of};
-ghost use Rattle.trdp_wire.specs.Told.{TellsMore, arrival_in};
+ghost use Rattle.trdp_wire.specs.Sockets.{GivesFrom, TakesFrom, fault_of_result};
+ghost use Rattle.trdp_base.specs.Reported.{TellsMore};
+ghost use Rattle.trdp_wire.specs.Told.{arrival_in};
 
 use crate::arrivals::fill;
 use crate::no_way::NO_WAY;
@@ -133,7 +134,7 @@ impl MemorySockets {
     /// # Errors
     /// What the system says where none does.
     fn way_to(&self, ip: Ip) -> Result<(), SocketFault>
-        ensures { fault_of result ≡ give_fault self.now.far ip }
+        ensures { fault_of_result result ≡ give_fault self.now.far ip }
     {
         match self.far {
             Some(far) if far == ip => Err(NO_WAY),
@@ -177,8 +178,8 @@ impl Sockets for MemorySockets {
 
     fn give(&mut self, socket: usize, to: Place, bytes: &[u8]) -> Result<(), SocketFault>
         ensures told { TellsMore (told_calls self.old) (told_calls self.new)
-            (GivesFrom socket to bytes.now (fault_of result) ∷ []) }
-        ensures refused { fault_of result ≡ give_fault self.old.far to.ip }
+            (GivesFrom socket to bytes.now (fault_of_result result) ∷ []) }
+        ensures refused { fault_of_result result ≡ give_fault self.old.far to.ip }
     {
         let answer = self.way_to(to.ip);
         let row = given(self.alloc, socket, to, bytes, answer);
@@ -239,7 +240,7 @@ fn given(
     answer: Result<(), SocketFault>,
 ) -> Result<SocketRow, AllocError>
     ensures { IfOk result (λ row. call_of row
-        ≡ GivesFrom socket to bytes.now (fault_of answer)) }
+        ≡ GivesFrom socket to bytes.now (fault_of_result answer)) }
 {
     let bytes = bytes.to_vec(alloc)?;
     match answer {

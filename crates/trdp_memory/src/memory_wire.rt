@@ -13,7 +13,7 @@ use crate::rows::{GiveRow, Rest, TakeRow};
 use std::alloc::{AllocError, Global};
 use std::marker::Model;
 use trdp_base::Place;
-use trdp_wire::{Port, Refusal, Wire, WireFault, fail};
+use trdp_wire::{GiveRefusal, Port, WatchedWire, Wire, WireFault, fail};
 
 /// A wire over which what was laid down before arrives, and which remembers what it is given.
 ///
@@ -43,7 +43,7 @@ pub struct MemoryWire {
     /// How often it has failed, at most 2^64 - 1.
     failures: u64,
     /// The latest give at which it failed; None before the first.
-    refusal: Option<Refusal>,
+    refusal: Option<GiveRefusal>,
     /// Whether it reports its takes and gives: no call was beyond its rooms.
     tells: bool,
 }
@@ -218,22 +218,17 @@ impl MemoryWire {
 
 impl Wire for MemoryWire {
     ghost use Rattle.std.specs.Prelude.{◌≡◌, ◌<◌, ◌≤◌, ◌+◌, ◌∷◌, [], length, IfOk, IfSome, OnErr};
-    ghost use Rattle.std.specs.Prelude.{is_err, true};
+    ghost use Rattle.std.specs.Prelude.{is_err};
     ghost use Rattle.trdp_memory.specs.MemoryWires.{after_give, after_take, next_arrival};
     ghost use Rattle.trdp_memory.specs.MemoryWires.{next_give_fails, room_after, told};
-    ghost use Rattle.trdp_memory.specs.MemoryWires.{after_rest, rest_of};
-    ghost use Rattle.trdp_memory.specs.Rows.{nowhere};
-    ghost use Rattle.trdp_wire.specs.Told.{TellsMore, arrived_in, give_of, taking_of};
+    ghost use Rattle.trdp_base.specs.Reported.{TellsMore};
+    ghost use Rattle.trdp_wire.specs.Told.{arrived_in, give_of, nowhere, taking_of};
 
     ghost takings = { λ w. told w.tells w.takings };
 
     ghost gives = { λ w. told w.tells w.gives };
 
     ghost faults = { λ w. w.failures };
-
-    ghost news = { λ _ _. true };
-
-    ghost ended = { λ _ _. nowhere };
 
     fn take(&mut self, port: Port, room: &mut [u8]) -> Result<Option<(Place, usize)>, WireFault>
         ensures within { IfOk result (λ found. IfSome found (λ f. f.1 ≤ length room.new)) }
@@ -297,13 +292,32 @@ impl Wire for MemoryWire {
         result
     }
 
+    fn failures(&self) -> u64 {
+        self.failures
+    }
+
+    fn refusal(&self) -> Option<GiveRefusal>
+        ensures { result ≡ self.now.refusal }
+    {
+        self.refusal
+    }
+}
+
+impl WatchedWire for MemoryWire {
+    ghost use Rattle.std.specs.Prelude.{◌≡◌, true};
+    ghost use Rattle.trdp_memory.specs.MemoryWires.{after_rest, asked_rest, told};
+
+    ghost news = { λ _ _. true };
+
+    ghost rested = { λ old new most. new ≡ after_rest old (asked_rest old most) };
+
     fn rest(&mut self, most: u64)
+        ensures rests { self.new ≡ after_rest self.old (asked_rest self.old most) }
         ensures takes_nothing { told self.new.tells self.new.takings
             ≡ told self.old.tells self.old.takings }
         ensures gives_nothing { told self.new.tells self.new.gives
             ≡ told self.old.tells self.old.gives }
         ensures fault { self.new.failures ≡ self.old.failures }
-        ensures after { self.new ≡ after_rest self.old (rest_of self.old most) }
     {
         let takes = self.taken.len();
         if self.rested.len() < self.rested.capacity() {
@@ -315,19 +329,7 @@ impl Wire for MemoryWire {
         true
     }
 
-    fn has_ended(&self, _port: Port, _place: Place) -> bool {
-        false
-    }
-
-    fn failures(&self) -> u64 {
-        self.failures
-    }
-
-    fn refusal(&self) -> Option<Refusal>
-        ensures { result ≡ self.now.refusal }
-    {
-        self.refusal
-    }
+    fn set_news(&mut self, _port: Port, _may_be: bool) {}
 }
 
 /// Adds a rest within the room.

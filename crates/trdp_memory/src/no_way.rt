@@ -5,7 +5,7 @@ ghost use Rattle.trdp_wire.specs.Refusals.{refusal_after};
 ghost use Rattle.trdp_memory.specs.MemoryWires.{no_way_if};
 
 use trdp_base::Place;
-use trdp_wire::{Port, Refusal, SocketFault, WireFault};
+use trdp_wire::{GiveRefusal, Port, SocketFault, WireFault};
 
 /// The system's number of its error where no way leads to a network (ENETUNREACH).
 const NETWORK_UNREACHABLE: i32 = 101;
@@ -17,7 +17,7 @@ pub(crate) const NO_WAY: SocketFault = SocketFault {
 
 /// Keeps a give at a wire in memory as the latest refusal, if it failed.
 pub(crate) fn keep_refusal(
-    refusal: &mut Option<Refusal>,
+    refusal: &mut Option<GiveRefusal>,
     port: Port,
     to: Place,
     answer: Result<(), WireFault>,
@@ -25,7 +25,7 @@ pub(crate) fn keep_refusal(
     ensures { refusal.new ≡ refusal_after port to (no_way_if (is_err answer)) refusal.old }
 {
     if answer.is_err() {
-        *refusal = Some(Refusal {
+        *refusal = Some(GiveRefusal {
             port,
             to,
             fault: NO_WAY,

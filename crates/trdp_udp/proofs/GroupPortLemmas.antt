@@ -8,7 +8,7 @@ use Rattle.trdp_wire.specs.declared.port.Port.{Port}
 use Rattle.trdp_wire.specs.declared.port.Port.TheVariants.{PdGroup, MdGroup}
 use Rattle.trdp_wire.specs.Ports.{group_ports}
 use Rattle.trdp_wire.specs.Sockets.{SocketCall}
-use Rattle.trdp_wire.specs.Told.{TellsMore}
+use Rattle.trdp_base.specs.Reported.{TellsMore}
 use Rattle.trdp_wire.proofs.ControlPortLemmas.{number_next}
 use Rattle.trdp_udp.proofs.SocketLemmas.{Asked, asked_all}
 

@@ -1,3 +1,4 @@
+pub mod ApartLemmas
 pub mod SocketLemmas
 pub mod SocketWireLemmas
 pub mod GroupPortLemmas

@@ -12,9 +12,10 @@ use Rattle.trdp_base.specs.declared.place.Place.{Place}
 use Rattle.trdp_dataset.specs.Configs.{ConfigModel}
 use Rattle.trdp_wire.specs.Ports.{place_of_port}
 use Rattle.trdp_wire.specs.Sockets.{SocketCall, Binds, Watches, MadeInTurn, StopsAtOne}
-use Rattle.trdp_wire.specs.Sockets.{refused, fault_of, socket_of, bind_of, ttl_of, watch_of}
-use Rattle.trdp_wire.specs.Told.{TellsMore}
-use Rattle.trdp_wire.proofs.ToldLemmas.{adds_none, adds_both}
+use Rattle.trdp_wire.specs.Sockets.{refused_call, fault_of_result, socket_of, bind_of, ttl_of}
+use Rattle.trdp_wire.specs.Sockets.{watch_of}
+use Rattle.trdp_base.specs.Reported.{TellsMore}
+use Rattle.trdp_base.proofs.ReportedLemmas.{adds_none, adds_both}
 
 -- calls that were made before those among which one was refused
 pub stops_behind : (fault : BindFault) (before calls : List SocketCall)
@@ -27,8 +28,8 @@ stops_behind fault before calls a b c first p = record {
   calls_are = ap (λ l. before ++ l) p.calls_are
       ∙ sym (append_assoc before p.granted (p.last ∷ p.behind));
   made = subst (λ (l : List SocketCall). TellsMore a c l)
-      (sym (append_assoc before p.granted (refused fault p.last ∷ [])))
-      (adds_both a b c before (p.granted ++ refused fault p.last ∷ []) first p.made);
+      (sym (append_assoc before p.granted (refused_call fault p.last ∷ [])))
+      (adds_both a b c before (p.granted ++ refused_call fault p.last ∷ []) first p.made);
 }
 
 -- calls that would have followed
@@ -88,20 +89,20 @@ pub bind_made : (old new : Option (List SocketCall)) (config : ConfigModel) (por
     (place : Place) (ttl : Option ℕ) (result : Result (Unit {0}) BindFault)
     → s ≡ socket_of config.groups port → place ≡ place_of_port config port
     → ttl ≡ ttl_of config port
-    → TellsMore old new (Binds s place ttl (fault_of result) ∷ [])
-    → MadeInTurn (bind_of config port ∷ []) (fault_of result) old new
+    → TellsMore old new (Binds s place ttl (fault_of_result result) ∷ [])
+    → MadeInTurn (bind_of config port ∷ []) (fault_of_result result) old new
 bind_made old new config port s place ttl result at here far told = by_result result
     (subst (λ (n : ℕ). TellsMore old new
-    (Binds n (place_of_port config port) (ttl_of config port) (fault_of result) ∷ [])) at
+    (Binds n (place_of_port config port) (ttl_of config port) (fault_of_result result) ∷ [])) at
     (subst (λ (p : Place). TellsMore old new
-    (Binds s p (ttl_of config port) (fault_of result) ∷ [])) here
-    (subst (λ (t : Option ℕ). TellsMore old new (Binds s place t (fault_of result) ∷ []))
+    (Binds s p (ttl_of config port) (fault_of_result result) ∷ [])) here
+    (subst (λ (t : Option ℕ). TellsMore old new (Binds s place t (fault_of_result result) ∷ []))
     far told)))
   where
     by_result : (r : Result (Unit {0}) BindFault)
         → TellsMore old new (Binds (socket_of config.groups port) (place_of_port config port)
-        (ttl_of config port) (fault_of r) ∷ [])
-        → MadeInTurn (bind_of config port ∷ []) (fault_of r) old new
+        (ttl_of config port) (fault_of_result r) ∷ [])
+        → MadeInTurn (bind_of config port ∷ []) (fault_of_result r) old new
     by_result (Ok x) made = made
     by_result (Err fault) made = record {
       granted = [];
@@ -113,14 +114,14 @@ bind_made old new config port s place ttl result at here far told = by_result re
 
 pub watch_made : (old new : Option (List SocketCall)) (config : ConfigModel) (port : Port) (s : ℕ)
     (result : Result (Unit {0}) BindFault)
-    → s ≡ socket_of config.groups port → TellsMore old new (Watches s (fault_of result) ∷ [])
-    → MadeInTurn (watch_of config port ∷ []) (fault_of result) old new
+    → s ≡ socket_of config.groups port → TellsMore old new (Watches s (fault_of_result result) ∷ [])
+    → MadeInTurn (watch_of config port ∷ []) (fault_of_result result) old new
 watch_made old new config port s result at told = by_result result
-    (subst (λ (n : ℕ). TellsMore old new (Watches n (fault_of result) ∷ [])) at told)
+    (subst (λ (n : ℕ). TellsMore old new (Watches n (fault_of_result result) ∷ [])) at told)
   where
     by_result : (r : Result (Unit {0}) BindFault)
-        → TellsMore old new (Watches (socket_of config.groups port) (fault_of r) ∷ [])
-        → MadeInTurn (watch_of config port ∷ []) (fault_of r) old new
+        → TellsMore old new (Watches (socket_of config.groups port) (fault_of_result r) ∷ [])
+        → MadeInTurn (watch_of config port ∷ []) (fault_of_result r) old new
     by_result (Ok x) made = made
     by_result (Err fault) made = record {
       granted = [];
@@ -134,7 +135,7 @@ watch_made old new config port s result at told = by_result result
 pub stops_with : (calls : List SocketCall) (a b : Option (List SocketCall))
     (result : Result (Unit {0}) BindFault) (fault : BindFault)
     → IsErrAnd result (λ f. f ≡ fault) → StopsAtOne calls fault a b
-    → MadeInTurn calls (fault_of result) a b
+    → MadeInTurn calls (fault_of_result result) a b
 stops_with calls a b (Ok x) fault same stop = absurd same
 stops_with calls a b (Err f) fault same stop =
     subst (λ (g : BindFault). StopsAtOne calls g a b) (sym same) stop

@@ -10,12 +10,13 @@ use Rattle.trdp_base.specs.declared.place.Place.{Place}
 use Rattle.trdp_wire.specs.declared.fault.WireFault.{WireFault}
 use Rattle.trdp_wire.specs.declared.port.Port.{Port}
 use Rattle.trdp_wire.specs.declared.socket_fault.SocketFault.{SocketFault}
-use Rattle.trdp_wire.specs.declared.refusal.Refusal.{Refusal}
+use Rattle.trdp_wire.specs.declared.refusal.GiveRefusal.{GiveRefusal}
 use Rattle.trdp_wire.specs.declared.unread.Unread.{Unread}
-use Rattle.trdp_wire.specs.Told.{has_failed, TellsMore, Arrived, Failed, Nothing, Came, arrived_in}
+use Rattle.trdp_base.specs.Reported.{TellsMore}
+use Rattle.trdp_wire.specs.Told.{has_failed, Arrived, Failed, Nothing, Came, arrived_in}
 use Rattle.trdp_wire.specs.Failures.{failure_after, one_more_if}
-use Rattle.trdp_wire.specs.Sockets.{SocketCall, TakesFrom, GivesFrom, socket_of, fault_of}
-use Rattle.trdp_udp.specs.SocketWires.{TakesAtSocket, GivesAtSocket, handed_in, is_answer}
+use Rattle.trdp_wire.specs.Sockets.{SocketCall, TakesFrom, GivesFrom, socket_of, fault_of_result}
+use Rattle.trdp_udp.specs.SocketWires.{TakesAtSocket, GivesAtSocket, handed_in, is_answer_at}
 
 -- the take that was made, where its answer and its socket are known
 asked_at : (groups : List ℕ) (s room : ℕ) (port : Port) (old new : Option (List SocketCall))
@@ -49,7 +50,7 @@ pub took_answer : {s : ℕ} {old new : Option (List SocketCall)}
     (got : Result (Option (Place × ℕ)) SocketFault)
     (from : Place) (len n : ℕ) (unread : Option Unread)
     → s ≡ socket_of groups port → got ≡ Ok (Some (from, len)) → bytes ≡ take len room
-    → is_answer port bytes ≡ true
+    → is_answer_at port bytes ≡ true
     → TellsMore old new (TakesFrom s (length room) (arrived_in got room) ∷ [])
     → TakesAtSocket groups old new port room (Ok None) n n true unread unread
 unfolding handed_in one_more_if
@@ -57,7 +58,7 @@ took_answer groups port room bytes got from len n unread at is front answers tol
   arrived = Came from bytes;
   asked = asked_at groups _ _ _ _ _ _ _ at
       (ap (λ r. arrived_in r room) is ∙ ap (λ l. Came from l) (sym front)) told;
-  answer = by_answer (is_answer port bytes) answers;
+  answer = by_answer (is_answer_at port bytes) answers;
   counted = refl;
   noted = refl;
   fault = None;
@@ -74,7 +75,7 @@ pub took_datagram : {s : ℕ} {old new : Option (List SocketCall)}
     (got : Result (Option (Place × ℕ)) SocketFault)
     (from : Place) (len n : ℕ) (unread : Option Unread)
     → s ≡ socket_of groups port → got ≡ Ok (Some (from, len)) → bytes ≡ take len room
-    → is_answer port bytes ≡ false
+    → is_answer_at port bytes ≡ false
     → TellsMore old new (TakesFrom s (length room) (arrived_in got room) ∷ [])
     → TakesAtSocket groups old new port room (Ok (Some (from, len))) n n true unread unread
 unfolding handed_in one_more_if
@@ -82,7 +83,7 @@ took_datagram groups port room bytes got from len n unread at is front answers t
   arrived = Came from bytes;
   asked = asked_at groups _ _ _ _ _ _ _ at
       (ap (λ r. arrived_in r room) is ∙ ap (λ l. Came from l) (sym front)) told;
-  answer = ap (λ l. Came from l) (sym front) ∙ by_answer (is_answer port bytes) answers;
+  answer = ap (λ l. Came from l) (sym front) ∙ by_answer (is_answer_at port bytes) answers;
   counted = refl;
   noted = refl;
   fault = None;
@@ -124,16 +125,17 @@ took_failure groups port room got fault counted result n m unread at is same fai
 
 -- a give that went well
 pub gave : (groups : List ℕ) (old new : Option (List SocketCall)) (port : Port) (s : ℕ) (to : Place)
-    (bytes : List ℕ) (got : Result (Unit {0}) SocketFault) (n : ℕ) (refusal : Option Refusal)
-    → s ≡ socket_of groups port → fault_of got ≡ None
-    → TellsMore old new (GivesFrom s to bytes (fault_of got) ∷ [])
+    (bytes : List ℕ) (got : Result (Unit {0}) SocketFault) (n : ℕ) (refusal : Option GiveRefusal)
+    → s ≡ socket_of groups port → fault_of_result got ≡ None
+    → TellsMore old new (GivesFrom s to bytes (fault_of_result got) ∷ [])
     → GivesAtSocket groups old new port to bytes (Ok tt) n n refusal refusal
 unfolding one_more_if
 gave groups old new port s to bytes got n refusal at well told = record {
   fault = None;
   asked = subst (λ (f : Option SocketFault).
       TellsMore old new (GivesFrom (socket_of groups port) to bytes f ∷ [])) well
-      (subst (λ (i : ℕ). TellsMore old new (GivesFrom i to bytes (fault_of got) ∷ [])) at told);
+      (subst (λ (i : ℕ). TellsMore old new
+      (GivesFrom i to bytes (fault_of_result got) ∷ [])) at told);
   answer = refl;
   counted = refl;
   kept = refl;

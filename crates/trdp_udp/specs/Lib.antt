@@ -1,4 +1,3 @@
-pub mod FewPorts
 pub mod Openings
 pub mod RestingWires
 pub mod RestSteps

@@ -1,11 +1,11 @@
 -- What a rest of the resting wire does.
 use Rattle.std.specs.Prelude.{◌≡◌, ℕ, zero, suc, ◌+◌, ◌-◌, ◌/◌, nat_lt, List, [], ◌∷◌}
-use Rattle.std.specs.Prelude.{nat_le, Bool, true, false, ◌&&◌, if◌then◌else◌, Option, Some, None}
+use Rattle.std.specs.Prelude.{Bool, true, false, if◌then◌else◌, Option, Some, None}
 use Rattle.trdp_udp.specs.declared.rest_step.RestStep.{RestStep}
 use Rattle.trdp_udp.specs.declared.rest_step.RestStep.TheVariants.{GoOn, Look, Sleep, Wait}
-use Rattle.trdp_wire.specs.Told.{TellsMore}
+use Rattle.trdp_base.specs.Reported.{TellsMore}
 
--- a turn without a rest: it is asked where news are, unless the turn goes on without
+-- a turn without a rest asks the system for news at its end, unless it is the first after a rest
 abbrev pub busy_step : Bool → RestStep
 busy_step true = GoOn
 busy_step false = Look
@@ -17,11 +17,11 @@ idle_step most =
     if nat_lt (most - 200) 1000 then Sleep most else Wait ((most - 200) / 1000)
 
 -- the step of a rest of at most that many microseconds, where something was heard since the rest
--- before or not, and a turn without a rest goes on or not
-unfoldable pub step_of : (heard : Bool) → ℕ → (goes_on : Bool) → RestStep
-step_of true most goes_on = busy_step goes_on
-step_of false zero goes_on = busy_step goes_on
-step_of false (suc n) goes_on = idle_step (suc n)
+-- before or not, and the turn is the first after a rest or not
+unfoldable pub step_of : (heard : Bool) → ℕ → (is_first : Bool) → RestStep
+step_of true most is_first = busy_step is_first
+step_of false zero is_first = busy_step is_first
+step_of false (suc n) is_first = idle_step (suc n)
 
 -- whether a step is a rest
 abbrev pub is_rest : RestStep → Bool
@@ -38,11 +38,6 @@ ReadsSo true began ended readings readings_then =
     TellsMore readings readings_then (began ∷ ended ∷ [])
 ReadsSo false began ended readings readings_then =
     TellsMore readings readings_then (began ∷ []) × (ended ≡ began)
-
--- whether the next turn goes on, after a step between these readings: after a rest of at least 100
--- microseconds
-abbrev pub goes_on_after : RestStep → (began ended : ℕ) → Bool
-goes_on_after step began ended = is_rest step && nat_le 100 (ended - began)
 
 -- whether there was no rest for 50 milliseconds up to this reading: since the first turn without
 -- one, or the first after the latest sleep for being busy

@@ -22,7 +22,8 @@ number_after (Some start) last None = last
 number_after None last moment = last
 
 -- a reading gave this time, or none, and made this number
-pub record Reads (old new : MomentCount) (moment : Option Instant) (number : ℕ) : Type 0 where
+pub record CountsReading (old new : MomentCount) (moment : Option Instant)
+    (number : ℕ) : Type 0 where
   pub start : new.start ≡ start_after old.start moment
   pub last : new.last ≡ number
   pub number_is : number ≡ number_after old.start old.last moment

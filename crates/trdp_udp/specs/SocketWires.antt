@@ -8,10 +8,11 @@ use Rattle.trdp_wire.specs.declared.fault.WireFault.{WireFault}
 use Rattle.trdp_wire.specs.declared.port.Port.{Port}
 use Rattle.trdp_wire.specs.declared.port.Port.TheVariants.{Pd, Md, PdGroup, MdGroup}
 use Rattle.trdp_wire.specs.declared.port.Port.TheVariants.{Operator, Control}
-use Rattle.trdp_wire.specs.declared.refusal.Refusal.{Refusal}
+use Rattle.trdp_wire.specs.declared.refusal.GiveRefusal.{GiveRefusal}
 use Rattle.trdp_wire.specs.declared.socket_fault.SocketFault.{SocketFault}
 use Rattle.trdp_wire.specs.declared.unread.Unread.{Unread}
-use Rattle.trdp_wire.specs.Told.{has_failed, TellsMore, Arrived, Failed, Nothing, Came, arrived_in}
+use Rattle.trdp_base.specs.Reported.{TellsMore}
+use Rattle.trdp_wire.specs.Told.{has_failed, Arrived, Failed, Nothing, Came, arrived_in}
 use Rattle.trdp_wire.specs.Failures.{failure_after, one_more_if}
 use Rattle.trdp_wire.specs.Refusals.{refusal_after, unread_after}
 use Rattle.trdp_wire.specs.Sockets.{SocketCall, TakesFrom, GivesFrom, socket_of}
@@ -31,8 +32,8 @@ begins_as_answer bytes = starts_with (λ a b. a == b) bytes (codes "line fault "
 
 -- whether a datagram at a port is such an answer, which isn't answered: else two ports could
 -- answer each other for ever
-unfoldable pub is_answer : Port → List ℕ → Bool
-is_answer port bytes = takes_lines port && begins_as_answer bytes
+unfoldable pub is_answer_at : Port → List ℕ → Bool
+is_answer_at port bytes = takes_lines port && begins_as_answer bytes
 
 -- what a take at a port hands in of what arrived at its socket, where the wire had failed that
 -- often: all but answers
@@ -40,7 +41,7 @@ unfoldable pub handed_in : ℕ → Port → Arrived → Arrived
 handed_in failures port Failed = failure_after failures
 handed_in failures port Nothing = Nothing
 handed_in failures port (Came from bytes) =
-    if is_answer port bytes then Nothing else Came from bytes
+    if is_answer_at port bytes then Nothing else Came from bytes
 
 -- whether something was heard at a take: a datagram, also one that isn't handed in, or a failure
 abbrev pub is_heard : Arrived → Bool
@@ -68,7 +69,7 @@ pub record TakesAtSocket (groups : List ℕ) (old new : Option (List SocketCall)
 -- one, if it was
 pub record GivesAtSocket (groups : List ℕ) (old new : Option (List SocketCall)) (port : Port)
     (to : Place) (bytes : List ℕ) (result : Result (Unit {0}) WireFault) (failures failures_then : ℕ)
-    (refusal refusal_then : Option Refusal) : Type 0 where
+    (refusal refusal_then : Option GiveRefusal) : Type 0 where
   pub fault : Option SocketFault
   pub asked : TellsMore old new (GivesFrom (socket_of groups port) to bytes fault ∷ [])
   pub answer : is_err result ≡ is_some fault && nat_lt failures (2 ^ 64 - 1)

@@ -17,18 +17,18 @@ use Rattle.trdp_wire.specs.declared.bind_fault.BindFault.TheVariants.{Bind, OutO
 use Rattle.trdp_wire.specs.declared.socket_fault.SocketFault.{SocketFault}
 
 -- the number by which a system reports a source
-abbrev pub number_of : Event → ℕ
-number_of event = (event_token event).0
+abbrev pub source_number : Event → ℕ
+source_number event = (event_token event).0
 
 -- a system's address as a place
-abbrev pub place_at : SocketAddrV4 → Place
-place_at address =
+abbrev pub place_of_address : SocketAddrV4 → Place
+place_of_address address =
     record { ip = record { 0 = ipv4_bits (v4_ip address) }; port = v4_port address }
 
 -- what it means that a system refuses a socket with an error of this kind
-abbrev pub fault_of_kind : ErrorKind → BindFault
-fault_of_kind kind.OutOfMemory = OutOfMemory
-fault_of_kind _ = Bind
+abbrev pub bind_fault_of : ErrorKind → BindFault
+bind_fault_of kind.OutOfMemory = OutOfMemory
+bind_fault_of _ = Bind
 
 -- the fault of a socket, by the system's number of its error, where it has one
 abbrev pub socket_fault : Option ℤ → SocketFault
@@ -42,7 +42,7 @@ untaken_of _ code = Err (socket_fault code)
 -- what a take answers to what a system says: where a datagram came from, and how many bytes it has
 abbrev pub received_of :
     Result (ℕ × SocketAddr) Error → Result (Option (Place × ℕ)) SocketFault
-received_of (Ok (len, V4 from)) = Ok (Some (place_at from, len))
+received_of (Ok (len, V4 from)) = Ok (Some (place_of_address from, len))
 received_of (Ok (len, V6 from)) = Ok None
 received_of (Err error) = untaken_of (error_kind error) (raw_os_error error)
 

@@ -4,12 +4,15 @@
 //!
 //! - [`UdpWire`], which never rests, and [`RestingWire`], which does, are wires over
 //!   [`Sockets`](trdp_wire::Sockets).
-//! - [`SystemSockets`] and [`RunClock`] are the system's.
+//!   [`BoundPorts`] says which ports of a configuration have sockets.
+//! - [`SystemSockets`] and [`RunClock`] are the system's. Where [`SharedWaits`] are asked, a wait
+//!   ends for something else too.
 //!
 //! ```text
 //! let wire = UdpWire::bind(&rt, &config)?;
 //! let clock = RunClock::new(&rt);
-//! let resting = RestingWire::bind(&rt, alloc, &config)?;
+//! let sockets = SystemSockets::new(&rt);
+//! let resting = RestingWire::open(alloc, sockets, clock, &config, BoundPorts::All)?;
 //! ```
 //!
 //! **Proved**, for any sockets that record their calls: which sockets are bound and watched, where
@@ -26,16 +29,18 @@
 //! calls.
 #![tactic(auto)]
 
-mod few_ports;
+mod bound_ports;
 mod opening;
 mod rest_step;
-mod resting_system;
 mod resting_wire;
 mod run_clock;
+mod shared_waits;
 mod system_sockets;
 mod udp_wire;
 
+pub use bound_ports::BoundPorts;
 pub use resting_wire::RestingWire;
 pub use run_clock::RunClock;
+pub use shared_waits::SharedWaits;
 pub use system_sockets::SystemSockets;
 pub use udp_wire::UdpWire;

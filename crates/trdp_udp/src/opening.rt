@@ -1,17 +1,15 @@
 //! What is asked of a system's sockets before the first turn: one after another, those of the ports
 //! that a configuration names.
 
-ghost use Rattle.std.specs.Prelude.{◌≡◌, ◌<◌, ◌≤◌, ◌∷◌, [], ◌++◌, length, map, slice_get};
-ghost use Rattle.std.specs.Prelude.{unwrap_or};
-ghost use Rattle.trdp_udp.specs.Openings.{request_of};
-ghost use Rattle.trdp_wire.specs.Ports.{control_numbers, network_ports, port_unless_0, ports_of};
-ghost use Rattle.trdp_wire.specs.declared.port.Port.TheVariants.{Control};
-ghost use Rattle.trdp_wire.specs.Sockets.{MadeInTurn, binds_of, fault_of, watches_of};
-ghost use Rattle.trdp_wire.specs.Sockets.{network_binds_of, network_watches_of, ttl_of};
+ghost use Rattle.std.specs.Prelude.{◌≡◌, ◌∷◌, [], ◌++◌, map};
+ghost use Rattle.trdp_udp.specs.Openings.{binds_of, bound_ports, call_of_request, watches_of};
+ghost use Rattle.trdp_wire.specs.Ports.{line_ports, network_ports, place_of_port, port_unless_0};
+ghost use Rattle.trdp_wire.specs.Sockets.{MadeInTurn, fault_of_result, ttl_of};
 
+use crate::bound_ports::BoundPorts;
 use std::alloc::Global;
 use trdp_dataset::NodeConfig;
-use trdp_wire::{BindFault, Groups, Port, Sockets, control_number, place_of_port, slot_number};
+use trdp_wire::{BindFault, GroupAddresses, Port, Sockets, place_of_port, slot_number};
 
 /// What is asked for a port.
 #[derive(Clone, Copy)]
@@ -20,17 +18,6 @@ pub(crate) enum PortRequest {
     Bind,
     /// A wait ends when a datagram comes there; this may allocate.
     Watch(Global),
-}
-
-/// Binds the sockets of a configuration's ports, one after another.
-///
-/// # Errors
-/// At the first one that is refused: its fault.
-pub(crate) fn bind_ports<S: Sockets>(sockets: &mut S, config: &NodeConfig) -> Result<(), BindFault>
-    ensures { MadeInTurn (binds_of config.now) (fault_of result)
-        (S.calls sockets.old) (S.calls sockets.new) }
-{
-    ask_for_ports(sockets, config, PortRequest::Bind)
 }
 
 /// Binds the sockets of a configuration's ports, one after another, and then has waits end when a
@@ -42,44 +29,33 @@ pub(crate) fn bind_and_watch_ports<S: Sockets>(
     sockets: &mut S,
     alloc: Global,
     config: &NodeConfig,
+    which: BoundPorts,
 ) -> Result<(), BindFault>
-    ensures { MadeInTurn (binds_of config.now ++ watches_of config.now) (fault_of result)
-        (S.calls sockets.old) (S.calls sockets.new) }
+    ensures { MadeInTurn (binds_of which config.now ++ watches_of which config.now)
+        (fault_of_result result) (S.calls sockets.old) (S.calls sockets.new) }
 {
-    bind_ports(sockets, config)?;
-    ask_for_ports(sockets, config, PortRequest::Watch(alloc))
+    ask_for_ports(sockets, config, which, PortRequest::Bind)?;
+    ask_for_ports(sockets, config, which, PortRequest::Watch(alloc))
 }
 
-/// Binds the sockets of process data and message data, at the node's address and at the groups'.
+/// Asks the same for each port that is to have a socket, in the order of a turn.
 ///
 /// # Errors
 /// At the first one that is refused: its fault.
-pub(crate) fn bind_network<S: Sockets>(
+pub(crate) fn ask_for_ports<S: Sockets>(
     sockets: &mut S,
     config: &NodeConfig,
+    which: BoundPorts,
+    request: PortRequest,
 ) -> Result<(), BindFault>
-    ensures { MadeInTurn (network_binds_of config.now) (fault_of result)
-        (S.calls sockets.old) (S.calls sockets.new) }
+    ensures { MadeInTurn (map (call_of_request config.now request) (bound_ports which config.now))
+        (fault_of_result result) (S.calls sockets.old) (S.calls sockets.new) }
 {
-    ask_for_network(sockets, config, PortRequest::Bind)
-}
-
-/// Binds the sockets of process data and message data, at the node's address and at the groups',
-/// and then has waits end when a datagram comes at one of them.
-///
-/// # Errors
-/// At the first call that is refused: its fault.
-pub(crate) fn bind_and_watch_network<S: Sockets>(
-    sockets: &mut S,
-    alloc: Global,
-    config: &NodeConfig,
-) -> Result<(), BindFault>
-    ensures { MadeInTurn
-        (network_binds_of config.now ++ network_watches_of config.now) (fault_of result)
-        (S.calls sockets.old) (S.calls sockets.new) }
-{
-    bind_network(sockets, config)?;
-    ask_for_network(sockets, config, PortRequest::Watch(alloc))
+    ask_for_network(sockets, config, request)?;
+    match which {
+        BoundPorts::All => ask_for_lines(sockets, config, request),
+        BoundPorts::Network => Ok(()),
+    }
 }
 
 /// Asks the same for each port at which telegrams come, in the order of a turn.
@@ -91,90 +67,35 @@ fn ask_for_network<S: Sockets>(
     config: &NodeConfig,
     request: PortRequest,
 ) -> Result<(), BindFault>
-    ensures { MadeInTurn (map (request_of config.now request) (network_ports config.now))
-        (fault_of result) (S.calls sockets.old) (S.calls sockets.new) }
+    ensures { MadeInTurn (map (call_of_request config.now request) (network_ports config.now))
+        (fault_of_result result) (S.calls sockets.old) (S.calls sockets.new) }
 {
-    ask_for_two(sockets, config, request, Port::Pd, Port::Md)?;
+    ask(sockets, config, request, Port::Pd)?;
+    ask(sockets, config, request, Port::Md)?;
     for group in config.groups() {
-        ask_for_two(
-            sockets,
-            config,
-            request,
-            Port::PdGroup(*group),
-            Port::MdGroup(*group),
-        )?;
+        ask(sockets, config, request, Port::PdGroup(*group))?;
+        ask(sockets, config, request, Port::MdGroup(*group))?;
     }
     Ok(())
 }
 
-/// Asks the same for a port, and then for another.
+/// Asks the same for each port at which lines come, in the order of a turn.
 ///
 /// # Errors
 /// At the first one that is refused: its fault.
-fn ask_for_two<S: Sockets>(
-    sockets: &mut S,
-    config: &NodeConfig,
-    request: PortRequest,
-    first: Port,
-    second: Port,
-) -> Result<(), BindFault>
-    ensures { MadeInTurn (map (request_of config.now request) (first ∷ second ∷ []))
-        (fault_of result) (S.calls sockets.old) (S.calls sockets.new) }
-{
-    ask(sockets, config, request, first)?;
-    ask(sockets, config, request, second)
-}
-
-/// Asks the same for each port that a configuration names, in the order of a turn.
-///
-/// # Errors
-/// At the first one that is refused: its fault.
-fn ask_for_ports<S: Sockets>(
+fn ask_for_lines<S: Sockets>(
     sockets: &mut S,
     config: &NodeConfig,
     request: PortRequest,
 ) -> Result<(), BindFault>
-    ensures { MadeInTurn (map (request_of config.now request) (ports_of config.now))
-        (fault_of result) (S.calls sockets.old) (S.calls sockets.new) }
+    ensures { MadeInTurn (map (call_of_request config.now request) (line_ports config.now))
+        (fault_of_result result) (S.calls sockets.old) (S.calls sockets.new) }
 {
-    ask_for_network(sockets, config, request)?;
-    ask_unless_0(
-        sockets,
-        config,
-        request,
-        config.operator_port(),
-        Port::Operator,
-    )?;
+    ask_unless_0(sockets, config, request, Port::Operator)?;
     for slot in 0..config.slots() + config.spare_control_ports() {
-        ask_for_control(sockets, config, request, slot)?;
+        ask_unless_0(sockets, config, request, Port::Control(slot_number(slot)))?;
     }
     Ok(())
-}
-
-/// Asks for the control port of a slot, unless its number is 0.
-///
-/// # Errors
-/// As the sockets answer.
-fn ask_for_control<S: Sockets>(
-    sockets: &mut S,
-    config: &NodeConfig,
-    request: PortRequest,
-    slot: usize,
-) -> Result<(), BindFault>
-    requires slot { slot < length (control_numbers config.now) }
-    requires few { length (control_numbers config.now) ≤ 31 }
-    ensures { MadeInTurn (map (request_of config.now request)
-        (port_unless_0 (unwrap_or (slice_get (control_numbers config.now) slot) 0) (Control slot)))
-        (fault_of result) (S.calls sockets.old) (S.calls sockets.new) }
-{
-    let number = control_number(config, slot).unwrap_or(0);
-    ask_unless_0(
-        sockets,
-        config,
-        request,
-        number,
-        Port::Control(slot_number(slot)),
-    )
 }
 
 /// Asks for a port, unless its number is 0.
@@ -186,13 +107,13 @@ fn ask_unless_0<S: Sockets>(
     sockets: &mut S,
     config: &NodeConfig,
     request: PortRequest,
-    number: u16,
     port: Port,
 ) -> Result<(), BindFault>
-    ensures { MadeInTurn (map (request_of config.now request) (port_unless_0 number port))
-        (fault_of result) (S.calls sockets.old) (S.calls sockets.new) }
+    ensures { MadeInTurn (map (call_of_request config.now request)
+        (port_unless_0 (place_of_port config.now port).port port))
+        (fault_of_result result) (S.calls sockets.old) (S.calls sockets.new) }
 {
-    if number == 0 {
+    if place_of_port(config, port).port == 0 {
         return Ok(());
     }
     ask(sockets, config, request, port)
@@ -208,10 +129,10 @@ fn ask<S: Sockets>(
     request: PortRequest,
     port: Port,
 ) -> Result<(), BindFault>
-    ensures { MadeInTurn (request_of config.now request port ∷ []) (fault_of result)
+    ensures { MadeInTurn (call_of_request config.now request port ∷ []) (fault_of_result result)
         (S.calls sockets.old) (S.calls sockets.new) }
 {
-    let socket = Groups::of(config).socket_of(port);
+    let socket = GroupAddresses::of(config).socket_of(port);
     match request {
         PortRequest::Bind => {
             sockets.bind(socket, place_of_port(config, port), ttl_of(config, port))

@@ -1,7 +1,7 @@
 //! What a rest does.
 
 ghost use Rattle.std.specs.Prelude.{◌≡◌};
-ghost use Rattle.trdp_udp.specs.RestSteps.{busy_step, goes_on_after, idle_step, is_breathless};
+ghost use Rattle.trdp_udp.specs.RestSteps.{busy_step, idle_step, is_breathless};
 ghost use Rattle.trdp_udp.specs.RestSteps.{is_rest, rest_left, step_of};
 
 /// How much earlier than asked a wait ends, in microseconds: the system comes late.
@@ -9,9 +9,6 @@ const WAKE_TIME: u64 = 200;
 
 /// The microseconds of one step of the system's waits.
 const WAIT_STEP: u64 = 1_000;
-
-/// The least microseconds of a rest that tells that little comes.
-const CALM_REST: u64 = 100;
 
 /// The most microseconds without a rest: a quarter of what the unit's limit lets a process of a
 /// real-time policy run without one.
@@ -22,7 +19,7 @@ const BREATHLESS: u64 = 50_000;
 pub(crate) enum RestStep {
     /// Nothing: the next turn begins.
     GoOn,
-    /// Where news are is asked before the next turn, without a wait.
+    /// The system is asked for news, without a wait.
     Look,
     /// A sleep of that many microseconds, after which the system is asked for news.
     Sleep(u64),
@@ -32,26 +29,16 @@ pub(crate) enum RestStep {
 
 impl RestStep {
     /// The step of a rest of at most `most` microseconds. `heard` is whether something was heard
-    /// since the rest before, `goes_on` whether a turn without a rest goes on without asking for
-    /// news.
+    /// since the rest before, `is_first` whether the turn is the first after a rest.
     #[tactic(auto, unfolding(crate::specs::RestSteps::step_of))]
-    pub(crate) fn of(heard: bool, most: u64, goes_on: bool) -> RestStep
-        ensures { result ≡ step_of heard most goes_on }
+    pub(crate) fn of(heard: bool, most: u64, is_first: bool) -> RestStep
+        ensures { result ≡ step_of heard most is_first }
     {
         if heard || most == 0 {
-            busy_step(goes_on)
+            busy_step(is_first)
         } else {
             idle_step(most)
         }
-    }
-
-    /// Whether the next turn goes on without asking where news are, if it has no rest, after this
-    /// step between these readings of the clock. It does after a rest that wasn't short, so that
-    /// something that comes alone costs no more calls.
-    pub(crate) fn goes_on(self, began: u64, ended: u64) -> bool
-        ensures { result ≡ goes_on_after self began ended }
-    {
-        self.is_rest() && CALM_REST <= ended.saturating_sub(began)
     }
 
     /// Whether it is a rest: a sleep or a wait.
@@ -88,11 +75,11 @@ pub(crate) fn is_breathless(busy: Option<u64>, reading: u64) -> bool
     }
 }
 
-/// The step of a turn without a rest: `goes_on` is whether it goes on without asking for news.
-fn busy_step(goes_on: bool) -> RestStep
-    ensures { result ≡ busy_step goes_on }
+/// The step of a turn without a rest: `is_first` is whether it is the first after a rest.
+fn busy_step(is_first: bool) -> RestStep
+    ensures { result ≡ busy_step is_first }
 {
-    if goes_on {
+    if is_first {
         RestStep::GoOn
     } else {
         RestStep::Look

@@ -2,21 +2,25 @@
 
 ghost use Rattle.std.specs.Prelude.{◌≡◌, ◌<◌, ◌≤◌, ◌++◌, length, map, None, Some, IfOk, IfErr};
 ghost use Rattle.std.specs.Prelude.{IfSome, OnErr, false, true, slice_set};
-ghost use Rattle.trdp_udp.specs.RestingWires.{RestsSo, TakesSo, news_at};
-ghost use Rattle.trdp_wire.specs.Sockets.{MadeInTurn, binds_of, watches_of};
-ghost use Rattle.trdp_wire.specs.Sockets.{network_binds_of, network_watches_of, socket_of};
+ghost use Rattle.trdp_udp.specs.RestingWires.{RestsSo, TakesIfNews, news_at, renewed};
+ghost use Rattle.trdp_wire.specs.Sockets.{MadeInTurn, socket_of};
+ghost use Rattle.trdp_udp.specs.Openings.{binds_of, watches_of};
 ghost use Rattle.trdp_udp.specs.SocketWires.{GivesAtSocket};
 
-use crate::few_ports::has_few_ports;
-use crate::opening::{bind_and_watch_network, bind_and_watch_ports};
+use crate::bound_ports::BoundPorts;
+use crate::opening::bind_and_watch_ports;
 use crate::rest_step::{RestStep, is_breathless, rest_left};
+use crate::shared_waits::SharedWaits;
 use crate::system_sockets::SOCKETS_MAX;
 use crate::udp_wire::UdpWire;
+use mio::Registry;
 use std::alloc::Global;
+use std::io;
 use trdp_base::Place;
 use trdp_dataset::NodeConfig;
 use trdp_wire::{
-    BindFault, Clock, Groups, Port, Refusal, Sockets, Unread, Wire, WireFault, has_news, set_news,
+    BindFault, GiveRefusal, GroupAddresses, Port, Sleeper, Sockets, Unread, WatchedWire, Wire,
+    WireFault, has_news, set_news,
 };
 
 /// The microseconds of a sleep after which the system's limit for a process of a real-time policy
@@ -27,39 +31,36 @@ const BREATH: u64 = 50;
 /// whole milliseconds, and asleep in the last one. It reports no takes and gives; its contracts
 /// say what it makes of the calls of its sockets.
 ///
-/// It asks the system only at ports of which there are news. No arrival is missed by that. The
-/// system is asked to report each arrival (the edge of epoll) before the first take, when there
-/// are news of each port. News end at a take that found nothing. What arrives before that take is
-/// found by it. What arrives after it is an edge, which the next wait reports, whether it had
-/// begun before or not. What the system reports twice is taken once. A wait comes in each rest
-/// that isn't cut short, and in each turn that has none, but not in the first after a rest of 100
-/// microseconds or more. It comes once something was heard in the turn, at the next port of which
-/// there are no news, or else at the turn's end. So a datagram that comes while another one is
-/// handled is taken in the same turn, if its port is still to come.
+/// **A take reads a port only if there is news of it**, which means that something may wait there.
+/// At first there is news of each port. News of a port ends when a take finds nothing there. It
+/// begins when the wire asks the system, which reports each arrival once (the edge of epoll).
 ///
-/// A wire of few UDP ports makes no wait there. In place of that it asks each port, whatever news
-/// there are of it: in what is left of the turn, or in the next one where the turn ends. It does so
-/// at the turn's end even where a take of the turn has asked, so that each turn asks each port while
-/// things come close together. That is as quick as a wait, and a flood does not slow it down. News
-/// stay as they are there.
+/// **A rest asks for news; a turn without a rest asks at its end, unless it is the first after a
+/// rest.** A turn here is all takes up to a call of `rest`. It has no rest if something was heard
+/// in it, or if no time is left for one. In the first turn after a rest the news is of a moment
+/// ago. So a telegram that comes alone costs three calls: the wait that reports it, the take that
+/// finds it, and the take that finds nothing more.
+///
+/// **No arrival is missed.** The system is told to report arrivals before the first take, when
+/// there is news of each port. News of a port ends only at a take that finds nothing. What came
+/// before that take was found by an earlier one. What comes after it is reported when the wire
+/// asks next, whether it comes before the wire asks or while the wire waits. If the system reports
+/// what was found already, one take finds nothing.
+///
+/// Of two turns in a row at least one asks. So the wire asks at the latest at the end of the turn
+/// after the one in which something came, and reads the port in the turn after that.
 #[derive(Drop)]
 pub struct RestingWire<S, C> {
     /// The ports.
     pub(crate) wire: UdpWire<S>,
     /// The clock that it reads and sleeps by.
     pub(crate) clock: C,
-    /// Whether it has few ports, and each is asked where others ask the system without a rest.
-    pub(crate) has_few_ports: bool,
-    /// Whether each port is asked up to the next rest, whatever news there are of it; always false
-    /// of a wire of more than few ports.
-    pub(crate) asks_each: bool,
     /// For the number of each socket, whether something may be there.
     pub(crate) news: [bool; SOCKETS_MAX],
     /// Whether something came or failed at a take since the latest rest.
     pub(crate) heard: bool,
-    /// Whether this turn goes on without asking where news are, if it has no rest: the first after
-    /// a rest that wasn't short does, and with more than few ports one that has asked.
-    pub(crate) goes_on: bool,
+    /// Whether this turn is the first after a rest, or the first of all.
+    pub(crate) is_first: bool,
     /// The reading of the clock at the end of the first turn without a rest; None where each since
     /// the latest rest had one.
     pub(crate) busy: Option<u64>,
@@ -67,19 +68,15 @@ pub struct RestingWire<S, C> {
     pub(crate) rested: Option<u64>,
 }
 
-impl<S: Sockets, C: Clock + Drop> RestingWire<S, C> {
+impl<S: Sockets, C: Sleeper + Drop> RestingWire<S, C> {
     ghost use Rattle.trdp_udp.specs.RestSteps.{Breathes, PausesSo};
-    ghost use Rattle.trdp_udp.specs.FewPorts.{has_few_ports};
-    ghost use Rattle.std.specs.Prelude.{◌≡◌, ◌<◌, ◌≤◌, ◌++◌, length};
-    ghost use Rattle.std.specs.Prelude.{IfOk, IfErr, IfSome, OnErr, None, Some, false, ◌||◌};
-    ghost use Rattle.trdp_wire.specs.Sockets.{MadeInTurn, binds_of, watches_of};
-    ghost use Rattle.trdp_wire.specs.Sockets.{network_binds_of, network_watches_of};
-    ghost use Rattle.trdp_udp.specs.RestingWires.{AsksAtOnce, AsksInStep, IsFresh, LooksIf};
-    ghost use Rattle.trdp_udp.specs.RestingWires.{TakesIfNews, asks_each_after, looks_first};
-    ghost use Rattle.trdp_udp.specs.RestingWires.{news_at};
+    ghost use Rattle.std.specs.Prelude.{◌≡◌, ◌++◌, IfOk, IfErr, None, Some};
+    ghost use Rattle.trdp_wire.specs.Sockets.{MadeInTurn};
+    ghost use Rattle.trdp_udp.specs.Openings.{binds_of, watches_of};
+    ghost use Rattle.trdp_udp.specs.RestingWires.{AsksInStep, HasTakenNothing, renewed};
 
-    /// Binds sockets at the ports that a configuration names, as [`UdpWire::open`] does, and then
-    /// has waits end when a datagram comes at one of them.
+    /// Binds sockets at ports that a configuration names, as [`UdpWire::open`] does, and then has
+    /// waits end when a datagram comes at one of them. So no wait takes memory.
     ///
     /// # Errors
     /// At the first port that isn't bound, or else not watched: its fault, and the sockets.
@@ -88,66 +85,38 @@ impl<S: Sockets, C: Clock + Drop> RestingWire<S, C> {
         mut sockets: S,
         clock: C,
         config: &NodeConfig,
+        which: BoundPorts,
     ) -> Result<RestingWire<S, C>, (BindFault, S)>
         ensures bound { IfOk result (λ wire. MadeInTurn
-            (binds_of config.now ++ watches_of config.now) None
+            (binds_of which config.now ++ watches_of which config.now) None
             (S.calls sockets) (S.calls wire.wire.sockets)) }
         ensures refused { IfErr result (λ back. MadeInTurn
-            (binds_of config.now ++ watches_of config.now) (Some back.0)
+            (binds_of which config.now ++ watches_of which config.now) (Some back.0)
             (S.calls sockets) (S.calls back.1)) }
+        ensures which { IfOk result (λ wire. wire.wire.bound ≡ which) }
         ensures groups { IfOk result (λ wire. wire.wire.groups ≡ config.now.groups) }
-        ensures fresh { IfOk result (λ wire. IsFresh clock (has_few_ports config.now) wire) }
+        ensures fresh { IfOk result (λ wire. HasTakenNothing clock wire) }
     {
-        match bind_and_watch_ports(&mut sockets, alloc, config) {
-            Ok(()) => {
-                let few = has_few_ports(config);
-                Ok(RestingWire::over(sockets, Groups::of(config), clock, few))
-            }
-            Err(fault) => Err((fault, sockets)),
-        }
-    }
-
-    /// Binds sockets at the ports of process data and message data alone, as
-    /// [`UdpWire::open_network`] does, and then has waits end when a datagram comes at one of them.
-    ///
-    /// # Errors
-    /// As [`RestingWire::open`].
-    pub fn open_network(
-        alloc: Global,
-        mut sockets: S,
-        clock: C,
-        config: &NodeConfig,
-    ) -> Result<RestingWire<S, C>, (BindFault, S)>
-        ensures bound { IfOk result (λ wire. MadeInTurn
-            (network_binds_of config.now ++ network_watches_of config.now) None
-            (S.calls sockets) (S.calls wire.wire.sockets)) }
-        ensures refused { IfErr result (λ back. MadeInTurn
-            (network_binds_of config.now ++ network_watches_of config.now) (Some back.0)
-            (S.calls sockets) (S.calls back.1)) }
-        ensures groups { IfOk result (λ wire. wire.wire.groups ≡ config.now.groups) }
-        ensures fresh { IfOk result (λ wire. IsFresh clock false wire) }
-    {
-        match bind_and_watch_network(&mut sockets, alloc, config) {
-            Ok(()) => Ok(RestingWire::over(sockets, Groups::of(config), clock, false)),
+        match bind_and_watch_ports(&mut sockets, alloc, config, which) {
+            Ok(()) => Ok(RestingWire::over(sockets, GroupAddresses::of(config), which, clock)),
             Err(fault) => Err((fault, sockets)),
         }
     }
 
     /// A wire over sockets that are bound and watched, before its first take: something may be at
-    /// each. `few` is whether it has few ports.
-    fn over(sockets: S, groups: Groups, clock: C, few: bool) -> RestingWire<S, C>
+    /// each.
+    fn over(sockets: S, groups: GroupAddresses, bound: BoundPorts, clock: C) -> RestingWire<S, C>
         ensures sockets { result.wire.sockets ≡ sockets }
         ensures groups { result.wire.groups ≡ groups }
-        ensures fresh { IsFresh clock few result }
+        ensures bound { result.wire.bound ≡ bound }
+        ensures fresh { HasTakenNothing clock result }
     {
         RestingWire {
-            wire: UdpWire::over(sockets, groups),
+            wire: UdpWire::over(sockets, groups, bound),
             clock,
-            has_few_ports: few,
-            asks_each: false,
             news: [true; SOCKETS_MAX],
             heard: false,
-            goes_on: true,
+            is_first: true,
             busy: None,
             rested: None,
         }
@@ -167,80 +136,29 @@ impl<S: Sockets, C: Clock + Drop> RestingWire<S, C> {
         &self.clock
     }
 
-    /// Asks where news are at a take at a port of which there are none, where something was heard
-    /// in this turn, and the turn doesn't go on without asking.
-    fn look_first(&mut self, port: Port)
-        ensures looks { LooksIf (looks_first self.old.heard self.old.goes_on
-            (news_at self.old port)) S.calls self.old self.new }
-    {
-        if self.heard && !self.goes_on && !self.has_news(port) {
-            self.ask_at_once();
-            self.goes_on = !self.has_few_ports;
-        }
-    }
-
-    /// Asks where news are without a rest: with few ports each port from then on, and with more the
-    /// system.
-    fn ask_at_once(&mut self)
-        ensures asks { AsksAtOnce self.old.has_few_ports (S.calls self.old.wire.sockets)
-            (S.calls self.new.wire.sockets) self.old.news self.new.news }
-        ensures kept { self.new ≡ record self.old {
-          wire = record self.old.wire { sockets = self.new.wire.sockets };
-          asks_each = self.old.has_few_ports || self.old.asks_each;
-          news = self.new.news;
-        } }
-    {
-        if self.has_few_ports {
-            self.asks_each = true;
-        } else {
-            self.wire.sockets.wait(0, &mut self.news);
-        }
-    }
-
-    /// Asks where news are in a step of a rest.
+    /// Asks the system for news in a step of a rest.
     fn ask_in(&mut self, step: RestStep)
-        ensures asks { AsksInStep self.old.has_few_ports step (S.calls self.old.wire.sockets)
+        ensures asks { AsksInStep step (S.calls self.old.wire.sockets)
             (S.calls self.new.wire.sockets) self.old.news self.new.news }
         ensures kept { self.new ≡ record self.old {
           wire = record self.old.wire { sockets = self.new.wire.sockets };
-          asks_each = asks_each_after self.old.has_few_ports step;
           news = self.new.news;
         } }
     {
-        self.asks_each = false;
         match step {
             RestStep::GoOn => {}
-            RestStep::Look => self.ask_at_once(),
-            RestStep::Sleep(_) => self.wire.sockets.wait(0, &mut self.news),
+            RestStep::Look | RestStep::Sleep(_) => self.wire.sockets.wait(0, &mut self.news),
             RestStep::Wait(millis) => self.wire.sockets.wait(millis, &mut self.news),
         }
     }
 
-    /// Takes the next datagram at a port, if there are news of it.
-    ///
-    /// # Errors
-    /// As [`Wire::take`].
-    fn take_news(
-        &mut self,
-        port: Port,
-        room: &mut [u8],
-    ) -> Result<Option<(Place, usize)>, WireFault>
-        ensures within { IfOk result (λ found. IfSome found (λ f. f.1 ≤ length room.new)) }
-        ensures fault { OnErr result (self.old.wire.failures < self.new.wire.failures) }
-        ensures takes { TakesIfNews (news_at self.old port) S.calls
-            self.old self.new port room.new result }
-        ensures refusal { self.new.wire.refusal ≡ self.old.wire.refusal }
+    /// Notes that something may be at a port, if `anew` is true.
+    fn renew(&mut self, port: Port, anew: bool)
+        ensures { self.new ≡ renewed anew port self.old }
     {
-        if !self.has_news(port) {
-            return Ok(None);
+        if anew {
+            self.set_news(port, true);
         }
-        let (found, heard) = self.wire.ask(port, room);
-        if heard {
-            self.heard = true;
-        } else if !self.asks_each {
-            self.set_news(port, false);
-        }
-        found
     }
 
     /// Makes the pause of a step of a rest that begins at this reading of the clock.
@@ -284,25 +202,58 @@ impl<S: Sockets, C: Clock + Drop> RestingWire<S, C> {
     }
 }
 
-impl<S: Sockets, C: Clock + Drop> Wire for RestingWire<S, C> {
+impl<S: Sockets + SharedWaits, C: Sleeper + Drop> RestingWire<S, C> {
+    /// Where the system is asked to end a rest for something else too, by the number of the socket
+    /// of its port (`socket_of`); None where it never waits.
+    ///
+    /// # Errors
+    /// What the system says to it.
+    pub fn registry(&self) -> io::Result<Option<Registry>> {
+        self.wire.sockets.registry()
+    }
+}
+
+impl<S: Sockets, C: Sleeper + Drop> Wire for RestingWire<S, C> {
     ghost takings = { λ _. None };
 
     ghost gives = { λ _. None };
 
     ghost faults = { λ wire. wire.wire.failures };
 
-    ghost news = { λ wire port. news_at wire port };
-
-    ghost ended = { λ _ _ _. false };
-
     fn take(&mut self, port: Port, room: &mut [u8]) -> Result<Option<(Place, usize)>, WireFault>
         ensures within { IfOk result (λ found. IfSome found (λ f. f.1 ≤ length room.new)) }
         ensures fault { OnErr result (self.old.wire.failures < self.new.wire.failures) }
-        ensures takes { TakesSo S.calls self.old self.new port room.new result }
+        ensures takes { TakesIfNews (news_at self.old port) S.calls
+            self.old self.new port room.new result }
         ensures refusal { self.new.wire.refusal ≡ self.old.wire.refusal }
     {
-        self.look_first(port);
-        self.take_news(port, room)
+        if !self.has_news(port) {
+            return Ok(None);
+        }
+        let (found, heard) = self.wire.ask(port, room);
+        if heard {
+            self.heard = true;
+        } else {
+            self.set_news(port, false);
+        }
+        found
+    }
+
+    fn find(
+        &mut self,
+        port: Port,
+        anew: bool,
+        room: &mut [u8],
+    ) -> (Result<Option<(Place, usize)>, WireFault>, bool)
+        ensures within { IfOk result.0 (λ found. IfSome found (λ f. f.1 ≤ length room.new)) }
+        ensures fault { OnErr result.0 (self.old.wire.failures < self.new.wire.failures) }
+        ensures takes { TakesIfNews (news_at (renewed anew port self.old) port) S.calls
+            (renewed anew port self.old) self.new port room.new result.0 }
+        ensures ends_nothing { result.1 ≡ false }
+        ensures refusal { self.new.wire.refusal ≡ self.old.wire.refusal }
+    {
+        self.renew(port, anew);
+        (self.take(port, room), false)
     }
 
     fn give(&mut self, port: Port, to: Place, bytes: &[u8]) -> Result<(), WireFault>
@@ -318,6 +269,32 @@ impl<S: Sockets, C: Clock + Drop> Wire for RestingWire<S, C> {
         self.wire.give(port, to, bytes)
     }
 
+    fn failures(&self) -> u64 {
+        self.wire.failures()
+    }
+
+    fn refusal(&self) -> Option<GiveRefusal>
+        ensures { result ≡ self.now.wire.refusal }
+    {
+        self.wire.refusal()
+    }
+
+    fn unread(&self) -> Option<Unread>
+        ensures { result ≡ self.now.wire.unread }
+    {
+        self.wire.unread()
+    }
+}
+
+impl<S: Sockets, C: Sleeper + Drop> WatchedWire for RestingWire<S, C> {
+    ghost use Rattle.trdp_wire.specs.declared.port.Port.{Port};
+    ghost use Rattle.trdp_wire.specs.News.{IsNoted};
+    ghost use Rattle.trdp_wire.specs.Ports.{are_apart};
+
+    ghost news = { λ wire port. news_at wire port };
+
+    ghost rested = { λ old new most. RestsSo S.calls C.readings C.sleeps old new most };
+
     fn rest(&mut self, most: u64)
         ensures fault { self.new.wire.failures ≡ self.old.wire.failures }
         ensures rests { RestsSo S.calls C.readings C.sleeps self.old self.new most }
@@ -328,7 +305,7 @@ impl<S: Sockets, C: Clock + Drop> Wire for RestingWire<S, C> {
         // rest had ended: the turn has used some of it.
         let began = self.clock.now();
         let left = rest_left(self.rested, began, most);
-        let step = RestStep::of(self.heard, left, self.goes_on);
+        let step = RestStep::of(self.heard, left, self.is_first);
         self.heard = false;
         self.pause(step, began);
         self.ask_in(step);
@@ -337,41 +314,24 @@ impl<S: Sockets, C: Clock + Drop> Wire for RestingWire<S, C> {
         } else {
             began
         };
-        self.goes_on = step.goes_on(began, ended);
+        self.is_first = step.is_rest();
         self.rested = Some(ended);
     }
 
     fn has_news(&self, port: Port) -> bool
         ensures { result ≡ news_at self.now port }
     {
-        self.asks_each || has_news(&self.news, self.wire.groups.socket_of(port))
-    }
-
-    fn has_ended(&self, _port: Port, _place: Place) -> bool {
-        false
+        has_news(&self.news, self.wire.groups.socket_of(port))
     }
 
     fn set_news(&mut self, port: Port, may_be: bool)
-        ensures { self.new ≡ record self.old {
+        ensures noted { IsNoted may_be (news_at self.old port) (news_at self.new port) }
+        ensures others { (other : Port) → are_apart port other ≡ true
+            → news_at self.new other ≡ news_at self.old other }
+        ensures kept { self.new ≡ record self.old {
           news = slice_set self.old.news (socket_of self.old.wire.groups port) may_be;
         } }
     {
         set_news(&mut self.news, self.wire.groups.socket_of(port), may_be);
-    }
-
-    fn failures(&self) -> u64 {
-        self.wire.failures()
-    }
-
-    fn refusal(&self) -> Option<Refusal>
-        ensures { result ≡ self.now.wire.refusal }
-    {
-        self.wire.refusal()
-    }
-
-    fn unread(&self) -> Option<Unread>
-        ensures { result ≡ self.now.wire.unread }
-    {
-        self.wire.unread()
     }
 }

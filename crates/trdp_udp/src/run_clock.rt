@@ -2,11 +2,11 @@
 
 ghost use Rattle.std.specs.Prelude.{◌≡◌, None, Option};
 ghost use Rattle.std.specs.declared.time.Instant.{Instant};
-ghost use Rattle.trdp_udp.specs.RunClocks.{Reads, micros_between};
+ghost use Rattle.trdp_udp.specs.RunClocks.{CountsReading, micros_between};
 
 use std::time::{Duration, Instant};
 use std::{thread, time};
-use trdp_wire::Clock;
+use trdp_wire::{Clock, Sleeper};
 
 /// The microseconds since the first time that the system's clock gave. Where that clock fails it
 /// repeats its last number, at first 0. It reports no readings and no sleeps.
@@ -42,20 +42,18 @@ impl<'a, R: time::Clock> RunClock<'a, R> {
 }
 
 impl<'a, R: time::Clock> Clock for RunClock<'a, R> {
-    ghost readings = { λ _. None };
-
-    ghost sleeps = { λ _. None };
-
     fn now(&mut self) -> u64
         ensures told { (moment : Option Instant)
-            × Reads self.old.count self.new.count moment result }
+            × CountsReading self.old.count self.new.count moment result }
     {
         match Instant::now(self.rt) {
             Ok(moment) => self.count.read(Some(moment)),
             Err(_) => self.count.read(None),
         }
     }
+}
 
+impl<'a, R: time::Clock> Sleeper for RunClock<'a, R> {
     fn sleep(&mut self, micros: u64)
         ensures { self.new.count ≡ self.old.count }
     {
@@ -66,7 +64,7 @@ impl<'a, R: time::Clock> Clock for RunClock<'a, R> {
 impl MomentCount {
     /// The number of a time, or of a reading at which the system's clock gave none.
     fn read(&mut self, moment: Option<Instant>) -> u64
-        ensures { Reads self.old self.new moment result }
+        ensures { CountsReading self.old self.new moment result }
     {
         match (self.start, moment) {
             (Some(start), Some(moment)) => self.last = micros_between(start, moment),

@@ -8,9 +8,11 @@ ghost use Rattle.std.specs.IoError.{error_kind, raw_os_error};
 ghost use Rattle.std.specs.Duration.{as_nanos};
 ghost use Rattle.mio.specs.Events.{items};
 ghost use Rattle.trdp_wire.specs.News.{with_news};
-ghost use Rattle.trdp_udp.specs.SystemSockets.{fault_of_kind, place_at, received_of, sent_of};
-ghost use Rattle.trdp_udp.specs.SystemSockets.{number_of, socket_fault};
+ghost use Rattle.trdp_udp.specs.SystemSockets.{bind_fault_of, place_of_address, received_of};
+ghost use Rattle.trdp_udp.specs.SystemSockets.{sent_of};
+ghost use Rattle.trdp_udp.specs.SystemSockets.{source_number, socket_fault};
 
+use crate::shared_waits::SharedWaits;
 use mio::unix::SourceFd;
 use mio::{Events, Interest, Poll, Registry, Token};
 use std::alloc::Global;
@@ -58,13 +60,10 @@ impl<'a, R: Net> SystemSockets<'a, R> {
             waits: None,
         }
     }
+}
 
-    /// Where the system is asked to end a wait for something else too; None before the first
-    /// socket that is watched.
-    ///
-    /// # Errors
-    /// The system's error.
-    pub(crate) fn registry(&self) -> io::Result<Option<Registry>> {
+impl<'a, R: Net> SharedWaits for SystemSockets<'a, R> {
+    fn registry(&self) -> io::Result<Option<Registry>> {
         match &self.waits {
             Some(waits) => Ok(Some(waits.poll.registry().try_clone()?)),
             None => Ok(None),
@@ -171,7 +170,7 @@ impl Waits {
 
 /// Notes that there are news of the numbers of these events.
 fn note_events(news: &mut [bool], events: &Events<Global>)
-    ensures { news.new ≡ with_news (map number_of (items events.now)) news.old }
+    ensures { news.new ≡ with_news (map source_number (items events.now)) news.old }
 {
     for event in events.iter() {
         set_news(news, event.token().0, true);
@@ -242,7 +241,7 @@ fn time_of(millis: u64) -> Duration
 
 /// What it means that the system refuses a socket.
 fn bind_fault(error: io::Error) -> BindFault
-    ensures { result ≡ fault_of_kind (error_kind error) }
+    ensures { result ≡ bind_fault_of (error_kind error) }
 {
     match error.kind() {
         io::ErrorKind::OutOfMemory => BindFault::OutOfMemory,
@@ -252,14 +251,14 @@ fn bind_fault(error: io::Error) -> BindFault
 
 /// A socket address as the system's.
 fn address_of(place: Place) -> SocketAddrV4
-    ensures { place_at result ≡ place }
+    ensures { place_of_address result ≡ place }
 {
     SocketAddrV4::new(Ipv4Addr::from_bits(place.ip.0), place.port)
 }
 
 /// The system's socket address as ours.
 fn place_at(address: SocketAddrV4) -> Place
-    ensures { result ≡ place_at address }
+    ensures { result ≡ place_of_address address }
 {
     Place {
         ip: Ip(address.ip().to_bits()),

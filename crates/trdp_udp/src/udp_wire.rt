@@ -2,16 +2,21 @@
 
 ghost use Rattle.std.specs.Prelude.{◌≡◌, ◌<◌, ◌≤◌, ◌∷◌, [], length, None, Some};
 ghost use Rattle.std.specs.Prelude.{IfOk, IfErr, IfSome, OnErr, Bool, false, true};
-ghost use Rattle.trdp_wire.specs.Sockets.{MadeInTurn, binds_of, network_binds_of};
+ghost use Rattle.trdp_wire.specs.Sockets.{MadeInTurn};
+ghost use Rattle.trdp_udp.specs.Openings.{binds_of};
 ghost use Rattle.trdp_udp.specs.SocketWires.{GivesAtSocket, TakesAtSocket, begins_as_answer};
-ghost use Rattle.trdp_udp.specs.SocketWires.{is_answer};
+ghost use Rattle.trdp_udp.specs.SocketWires.{is_answer_at};
 
-use crate::opening::{bind_network, bind_ports};
+use crate::bound_ports::BoundPorts;
+use crate::opening::{PortRequest, ask_for_ports};
 use crate::system_sockets::SystemSockets;
 use std::net::Net;
 use trdp_base::Place;
 use trdp_dataset::NodeConfig;
-use trdp_wire::{BindFault, Groups, Port, Refusal, Sockets, Unread, Wire, WireFault, fail};
+use trdp_wire::{
+    BindFault, GiveRefusal, GroupAddresses, Port, Sockets, Unread, WatchedWire, Wire, WireFault,
+    fail,
+};
 
 /// How each answer begins to a datagram that is no line of its port.
 const FAULT_FRONT: &[u8] = b"line fault ";
@@ -27,17 +32,19 @@ pub struct UdpWire<S> {
     /// The sockets of the ports.
     pub(crate) sockets: S,
     /// The groups of the node, by which each port has its socket.
-    pub(crate) groups: Groups,
+    pub(crate) groups: GroupAddresses,
+    /// Which ports of its configuration have sockets.
+    pub(crate) bound: BoundPorts,
     /// How often a take or a give failed, at most 2^64 - 1.
     pub(crate) failures: u64,
     /// The latest give that was refused; None before the first.
-    pub(crate) refusal: Option<Refusal>,
+    pub(crate) refusal: Option<GiveRefusal>,
     /// The latest take that failed; None before the first.
     pub(crate) unread: Option<Unread>,
 }
 
 impl<'a, R: Net> UdpWire<SystemSockets<'a, R>> {
-    /// Binds the system's sockets at the ports that a configuration names, as [`UdpWire::open`]
+    /// Binds the system's sockets at all ports that a configuration names, as [`UdpWire::open`]
     /// does. It allocates nothing of its own, so that a port which can't be bound is found
     /// whatever memory is there.
     ///
@@ -45,31 +52,13 @@ impl<'a, R: Net> UdpWire<SystemSockets<'a, R>> {
     /// At the first port that isn't bound: `OutOfMemory` where the system is out of memory for it,
     /// and else `Bind`.
     pub fn bind(rt: &'a R, config: &NodeConfig) -> Result<UdpWire<SystemSockets<'a, R>>, BindFault>
+        ensures all { IfOk result (λ wire. wire.bound ≡ BoundPorts.All) }
+        ensures groups { IfOk result (λ wire. wire.groups ≡ config.now.groups) }
         ensures failures { IfOk result (λ wire. wire.failures ≡ 0) }
         ensures refusal { IfOk result (λ wire. wire.refusal ≡ None) }
         ensures unread { IfOk result (λ wire. wire.unread ≡ None) }
     {
-        match UdpWire::open(SystemSockets::new(rt), config) {
-            Ok(wire) => Ok(wire),
-            Err((fault, _)) => Err(fault),
-        }
-    }
-
-    /// Binds the system's sockets at the ports of process data and message data alone, as
-    /// [`UdpWire::open_network`] does: nothing ever comes at the others. It allocates nothing of
-    /// its own.
-    ///
-    /// # Errors
-    /// As [`UdpWire::bind`].
-    pub fn bind_network(
-        rt: &'a R,
-        config: &NodeConfig,
-    ) -> Result<UdpWire<SystemSockets<'a, R>>, BindFault>
-        ensures failures { IfOk result (λ wire. wire.failures ≡ 0) }
-        ensures refusal { IfOk result (λ wire. wire.refusal ≡ None) }
-        ensures unread { IfOk result (λ wire. wire.unread ≡ None) }
-    {
-        match UdpWire::open_network(SystemSockets::new(rt), config) {
+        match UdpWire::open(SystemSockets::new(rt), config, BoundPorts::All) {
             Ok(wire) => Ok(wire),
             Err((fault, _)) => Err(fault),
         }
@@ -77,45 +66,30 @@ impl<'a, R: Net> UdpWire<SystemSockets<'a, R>> {
 }
 
 impl<S: Sockets> UdpWire<S> {
-    /// Binds sockets at the ports that a configuration names, one after another: process data and
-    /// message data at its address and at those of its groups, the operator's and the control ports
-    /// of the slots at its control address.
+    /// Binds sockets at ports that a configuration names, one after another: process data and
+    /// message data at its address and at those of its groups, and with `BoundPorts::All` the
+    /// operator's and the control ports of the slots at its control address. Nothing ever comes at
+    /// a port that has no socket.
     ///
     /// # Errors
     /// At the first port that isn't bound: its fault, and the sockets.
-    pub fn open(mut sockets: S, config: &NodeConfig) -> Result<UdpWire<S>, (BindFault, S)>
-        ensures bound { IfOk result (λ wire. MadeInTurn (binds_of config.now) None
+    pub fn open(
+        mut sockets: S,
+        config: &NodeConfig,
+        which: BoundPorts,
+    ) -> Result<UdpWire<S>, (BindFault, S)>
+        ensures bound { IfOk result (λ wire. MadeInTurn (binds_of which config.now) None
             (S.calls sockets) (S.calls wire.sockets)) }
-        ensures refused { IfErr result (λ back. MadeInTurn (binds_of config.now) (Some back.0)
-            (S.calls sockets) (S.calls back.1)) }
-        ensures groups { IfOk result (λ wire. wire.groups ≡ config.now.groups) }
-        ensures failures { IfOk result (λ wire. wire.failures ≡ 0) }
-        ensures refusal { IfOk result (λ wire. wire.refusal ≡ None) }
-        ensures unread { IfOk result (λ wire. wire.unread ≡ None) }
-    {
-        match bind_ports(&mut sockets, config) {
-            Ok(()) => Ok(UdpWire::over(sockets, Groups::of(config))),
-            Err(fault) => Err((fault, sockets)),
-        }
-    }
-
-    /// Binds sockets at the ports of process data and message data alone, one after another, at the
-    /// address of the configuration and at those of its groups.
-    ///
-    /// # Errors
-    /// As [`UdpWire::open`].
-    pub fn open_network(mut sockets: S, config: &NodeConfig) -> Result<UdpWire<S>, (BindFault, S)>
-        ensures bound { IfOk result (λ wire. MadeInTurn (network_binds_of config.now) None
-            (S.calls sockets) (S.calls wire.sockets)) }
-        ensures refused { IfErr result (λ back. MadeInTurn (network_binds_of config.now)
+        ensures refused { IfErr result (λ back. MadeInTurn (binds_of which config.now)
             (Some back.0) (S.calls sockets) (S.calls back.1)) }
+        ensures which { IfOk result (λ wire. wire.bound ≡ which) }
         ensures groups { IfOk result (λ wire. wire.groups ≡ config.now.groups) }
         ensures failures { IfOk result (λ wire. wire.failures ≡ 0) }
         ensures refusal { IfOk result (λ wire. wire.refusal ≡ None) }
         ensures unread { IfOk result (λ wire. wire.unread ≡ None) }
     {
-        match bind_network(&mut sockets, config) {
-            Ok(()) => Ok(UdpWire::over(sockets, Groups::of(config))),
+        match ask_for_ports(&mut sockets, config, which, PortRequest::Bind) {
+            Ok(()) => Ok(UdpWire::over(sockets, GroupAddresses::of(config), which)),
             Err(fault) => Err((fault, sockets)),
         }
     }
@@ -128,9 +102,10 @@ impl<S: Sockets> UdpWire<S> {
     }
 
     /// A wire over sockets that are bound, before its first take.
-    pub(crate) fn over(sockets: S, groups: Groups) -> UdpWire<S>
+    pub(crate) fn over(sockets: S, groups: GroupAddresses, bound: BoundPorts) -> UdpWire<S>
         ensures sockets { result.sockets ≡ sockets }
         ensures groups { result.groups ≡ groups }
+        ensures bound { result.bound ≡ bound }
         ensures failures { result.failures ≡ 0 }
         ensures refusal { result.refusal ≡ None }
         ensures unread { result.unread ≡ None }
@@ -138,6 +113,7 @@ impl<S: Sockets> UdpWire<S> {
         UdpWire {
             sockets,
             groups,
+            bound,
             failures: 0,
             refusal: None,
             unread: None,
@@ -192,10 +168,6 @@ impl<S: Sockets> Wire for UdpWire<S> {
 
     ghost faults = { λ wire. wire.failures };
 
-    ghost news = { λ _ _. true };
-
-    ghost ended = { λ _ _ _. false };
-
     fn take(&mut self, port: Port, room: &mut [u8]) -> Result<Option<(Place, usize)>, WireFault>
         ensures within { IfOk result (λ found. IfSome found (λ f. f.1 ≤ length room.new)) }
         ensures fault { OnErr result (self.old.failures < self.new.failures) }
@@ -222,29 +194,17 @@ impl<S: Sockets> Wire for UdpWire<S> {
         match self.sockets.give(self.groups.socket_of(port), to, bytes) {
             Ok(()) => Ok(()),
             Err(fault) => {
-                self.refusal = Some(Refusal { port, to, fault });
+                self.refusal = Some(GiveRefusal { port, to, fault });
                 fail(&mut self.failures)
             }
         }
-    }
-
-    fn rest(&mut self, _most: u64)
-        ensures { self.new ≡ self.old }
-    {}
-
-    fn has_news(&self, _port: Port) -> bool {
-        true
-    }
-
-    fn has_ended(&self, _port: Port, _place: Place) -> bool {
-        false
     }
 
     fn failures(&self) -> u64 {
         self.failures
     }
 
-    fn refusal(&self) -> Option<Refusal>
+    fn refusal(&self) -> Option<GiveRefusal>
         ensures { result ≡ self.now.refusal }
     {
         self.refusal
@@ -257,10 +217,28 @@ impl<S: Sockets> Wire for UdpWire<S> {
     }
 }
 
+impl<S: Sockets> WatchedWire for UdpWire<S> {
+    ghost news = { λ _ _. true };
+
+    ghost rested = { λ old new _. new ≡ old };
+
+    fn rest(&mut self, _most: u64)
+        ensures { self.new ≡ self.old }
+    {}
+
+    fn has_news(&self, _port: Port) -> bool {
+        true
+    }
+
+    fn set_news(&mut self, _port: Port, _may_be: bool)
+        ensures { self.new ≡ self.old }
+    {}
+}
+
 /// Whether a datagram at a port is an answer to one that was no line.
-#[tactic(auto, unfolding(crate::specs::SocketWires::is_answer))]
+#[tactic(auto, unfolding(crate::specs::SocketWires::is_answer_at))]
 fn is_answer(port: Port, bytes: &[u8]) -> bool
-    ensures { result ≡ is_answer port bytes.now }
+    ensures { result ≡ is_answer_at port bytes.now }
 {
     match port {
         Port::Pd | Port::Md | Port::PdGroup(_) | Port::MdGroup(_) => false,

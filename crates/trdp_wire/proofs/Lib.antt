@@ -1,2 +1,1 @@
-pub mod ToldLemmas
 pub mod ControlPortLemmas

@@ -1,6 +1,7 @@
 -- Ports, and those that a daemon takes datagrams from.
 use Rattle.std.specs.Prelude.{ℕ, suc, ◌==◌, if◌then◌else◌, List, [], ◌∷◌, ◌++◌}
-use Rattle.std.specs.Prelude.{map, Bool, true, false, slice_get, unwrap_or}
+use Rattle.std.specs.Prelude.{map, Bool, true, false, slice_get, unwrap_or, nat_lt, ◌&&◌, not}
+use Rattle.std.specs.Prelude.{◌+◌}
 use Rattle.trdp_base.specs.declared.place.Place.{Place}
 use Rattle.trdp_dataset.specs.Configs.{ConfigModel}
 use Rattle.trdp_wire.specs.declared.port.Port.{Port}
@@ -16,6 +17,30 @@ is_port (MdGroup group) (MdGroup other) = group == other
 is_port Operator Operator = true
 is_port (Control slot) (Control other) = slot == other
 is_port _ _ = false
+
+-- what a port is for, as a number: process data, message data, the operator, a group, and then the
+-- applications slot by slot
+abbrev pub port_kind : Port → ℕ
+port_kind Pd = 0
+port_kind Md = 1
+port_kind Operator = 2
+port_kind (PdGroup group) = 3
+port_kind (MdGroup group) = 3
+port_kind (Control slot) = 4 + slot
+
+-- whether a node may have such a port: it has at most 31 control ports
+abbrev pub may_exist : Port → Bool
+may_exist Pd = true
+may_exist Md = true
+may_exist Operator = true
+may_exist (PdGroup group) = true
+may_exist (MdGroup group) = true
+may_exist (Control slot) = nat_lt slot 31
+
+-- two ports that a node may have, and that are for different things
+unfoldable pub are_apart : Port → Port → Bool
+are_apart port other =
+    may_exist port && (may_exist other && not (port_kind port == port_kind other))
 
 -- a port; none where its number is 0
 unfoldable pub port_unless_0 : ℕ → Port → List Port

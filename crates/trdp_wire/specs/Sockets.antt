@@ -1,5 +1,5 @@
 -- What is asked of the datagram sockets of a system.
-use Rattle.std.specs.Prelude.{◌≡◌, ℕ, ◌+◌, ◌*◌, ◌==◌, List, [], ◌∷◌, ◌++◌, length, map}
+use Rattle.std.specs.Prelude.{◌≡◌, ℕ, ◌+◌, ◌*◌, ◌==◌, List, [], ◌∷◌, ◌++◌, length}
 use Rattle.std.specs.Prelude.{Option, Some, None, unwrap_or}
 use Rattle.std.specs.List.{position}
 use Rattle.std.specs.Prelude.{Result, Ok, Err}
@@ -10,8 +10,9 @@ use Rattle.trdp_wire.specs.declared.port.Port.{Port}
 use Rattle.trdp_wire.specs.declared.port.Port.TheVariants.{Pd, Md, PdGroup, MdGroup}
 use Rattle.trdp_wire.specs.declared.port.Port.TheVariants.{Operator, Control}
 use Rattle.trdp_wire.specs.declared.socket_fault.SocketFault.{SocketFault}
-use Rattle.trdp_wire.specs.Ports.{network_ports, ports_of, place_of_port}
-use Rattle.trdp_wire.specs.Told.{TellsMore, Arrived}
+use Rattle.trdp_wire.specs.Ports.{place_of_port}
+use Rattle.trdp_base.specs.Reported.{TellsMore}
+use Rattle.trdp_wire.specs.Told.{Arrived}
 
 -- one call, with its answer. A socket is bound at a place, with the time to live of what it sends,
 -- where it is to be another than the system's. With room for that many bytes, what was taken from
@@ -25,17 +26,17 @@ pub data SocketCall : Type 0 where
   Waits : (millis : ℕ) (told : List ℕ) → SocketCall
 
 -- the fault of an answer
-abbrev pub fault_of : {X E : Type 0} → Result X E → Option E
-fault_of (Ok x) = None
-fault_of (Err fault) = Some fault
+abbrev pub fault_of_result : {X E : Type 0} → Result X E → Option E
+fault_of_result (Ok x) = None
+fault_of_result (Err fault) = Some fault
 
 -- a call of those that can be refused, refused with this fault
-abbrev pub refused : BindFault → SocketCall → SocketCall
-refused fault (Binds socket place ttl answer) = Binds socket place ttl (Some fault)
-refused fault (TakesFrom socket room arrived) = TakesFrom socket room arrived
-refused fault (GivesFrom socket to bytes answer) = GivesFrom socket to bytes answer
-refused fault (Watches socket answer) = Watches socket (Some fault)
-refused fault (Waits millis told) = Waits millis told
+abbrev pub refused_call : BindFault → SocketCall → SocketCall
+refused_call fault (Binds socket place ttl answer) = Binds socket place ttl (Some fault)
+refused_call fault (TakesFrom socket room arrived) = TakesFrom socket room arrived
+refused_call fault (GivesFrom socket to bytes answer) = GivesFrom socket to bytes answer
+refused_call fault (Watches socket answer) = Watches socket (Some fault)
+refused_call fault (Waits millis told) = Waits millis told
 
 -- of these calls, which are listed as granted, the first ones were made, and then one that was
 -- refused with this fault
@@ -45,7 +46,7 @@ pub record StopsAtOne (calls : List SocketCall) (fault : BindFault)
   pub last : SocketCall
   pub behind : List SocketCall
   pub calls_are : calls ≡ granted ++ last ∷ behind
-  pub made : TellsMore old new (granted ++ refused fault last ∷ [])
+  pub made : TellsMore old new (granted ++ refused_call fault last ∷ [])
 
 -- these calls, which are listed as granted, were made in this order and granted; or up to the
 -- first that was refused
@@ -84,19 +85,3 @@ bind_of config port = Binds (socket_of config.groups port) (place_of_port config
 -- a wait ends when a datagram comes at a port
 abbrev pub watch_of : ConfigModel → Port → SocketCall
 watch_of config port = Watches (socket_of config.groups port) None
-
--- the sockets of a configuration's ports are bound, one after another
-abbrev pub binds_of : ConfigModel → List SocketCall
-binds_of config = map (bind_of config) (ports_of config)
-
--- they are watched, one after another
-abbrev pub watches_of : ConfigModel → List SocketCall
-watches_of config = map (watch_of config) (ports_of config)
-
--- the sockets of the network's ports alone are bound
-abbrev pub network_binds_of : ConfigModel → List SocketCall
-network_binds_of config = map (bind_of config) (network_ports config)
-
--- they are watched
-abbrev pub network_watches_of : ConfigModel → List SocketCall
-network_watches_of config = map (watch_of config) (network_ports config)

@@ -1,5 +1,5 @@
 -- What a wire reports of its takes and gives, and a clock of its readings.
-use Rattle.std.specs.Prelude.{◌≡◌, ℕ, List, ◌++◌, length, take, Option, Some, None, Result, Ok}
+use Rattle.std.specs.Prelude.{ℕ, List, length, take, Option, Some, None, Result, Ok}
 use Rattle.std.specs.Prelude.{Err}
 use Rattle.std.specs.Prelude.{Bool, true, false, is_err}
 use Rattle.trdp_base.specs.declared.place.Place.{Place}
@@ -52,6 +52,10 @@ abbrev pub arrived_in : {E : Type 0} → Result (Option (Place × ℕ)) E → Li
 arrived_in (Err fault) room = Failed
 arrived_in (Ok found) room = arrival_in found room
 
+-- a place of no application that has ended, whichever it is
+abbrev pub nowhere : Place → Bool
+nowhere = λ place. false
+
 -- whether what a take answered came from a place whose application had ended by then
 abbrev pub stands_for_end : (has_ended : Place → Bool) → Arrived → Bool
 stands_for_end has_ended Failed = false
@@ -78,9 +82,3 @@ offer_to port to bytes = record { port = port; to = to; bytes = bytes }
 abbrev pub give_of : Port → Place → List ℕ → Result (Unit {0}) WireFault → Give
 give_of port to bytes result =
     record { offer = offer_to port to bytes; failed = is_err result }
-
--- a list that is reported afterwards was reported before, and these were added to it
-abbrev pub TellsMore : {X : Type 0} → Option (List X) → Option (List X) → List X → Type 0
-TellsMore old None more = Unit {0}
-TellsMore None (Some new) more = ⊥
-TellsMore (Some old) (Some new) more = new ≡ old ++ more

@@ -1,25 +1,21 @@
-//! What time is read from, and what sleeps by it.
+//! What time is read from.
 
 ghost use Rattle.std.specs.Prelude.{◌≡◌, [], ◌∷◌};
-ghost use Rattle.trdp_wire.specs.Told.{TellsMore};
+ghost use Rattle.trdp_base.specs.Reported.{TellsMore};
 
-/// A clock, in microseconds from a time of its own. It may report its readings and its sleeps.
+/// A clock, in microseconds from a time of its own. It may report its readings.
 pub trait Clock {
-    ghost use Rattle.std.specs.Prelude.{ℕ, List, Option};
+    ghost use Rattle.std.specs.Prelude.{ℕ, List, Option, None};
 
     /// What it has read, in order; none where this clock reports nothing.
-    ghost readings: { Self → Option (List ℕ) };
+    ghost readings: { Self → Option (List ℕ) } = { λ _. None };
 
-    /// How long it has slept, in microseconds and in order; none where this clock reports nothing.
-    ghost sleeps: { Self → Option (List ℕ) };
+    /// How long its owner has slept by it, in microseconds and in order; none where this clock
+    /// reports no sleeps.
+    ghost sleeps: { Self → Option (List ℕ) } = { λ _. None };
 
     /// Reads the clock, in microseconds.
     fn now(&mut self) -> u64
         ensures told { TellsMore (readings self.old) (readings self.new) (result ∷ []) }
         ensures sleeps_nothing { sleeps self.new ≡ sleeps self.old };
-
-    /// Sleeps for `micros` microseconds, whatever comes meanwhile.
-    fn sleep(&mut self, micros: u64)
-        ensures told { TellsMore (sleeps self.old) (sleeps self.new) (micros ∷ []) }
-        ensures reads_nothing { readings self.new ≡ readings self.old };
 }

@@ -15,12 +15,12 @@ const GROUPS_MAX: usize = 32;
 /// The addresses of the groups whose telegrams come to a node, in the order of its configuration
 /// and in host order. They decide which socket each port of a group has.
 #[derive(Drop)]
-pub struct Groups {
+pub struct GroupAddresses {
     /// The addresses, at most 32; empty where the node is in no group.
     addresses: ArrayVec<u32, GROUPS_MAX>,
 }
 
-impl Model for Groups {
+impl Model for GroupAddresses {
     ghost use Rattle.std.specs.Prelude.{◌≤◌, ℕ, List, length};
 
     ghost Value = { List ℕ };
@@ -30,14 +30,14 @@ impl Model for Groups {
     ghost invariant = { λ g. length g.addresses.items ≤ 32 };
 }
 
-impl Groups {
+impl GroupAddresses {
     /// The groups of a configuration.
-    pub fn of(config: &NodeConfig) -> Groups
+    pub fn of(config: &NodeConfig) -> GroupAddresses
         ensures { result ≡ config.now.groups }
     {
         let mut addresses = ArrayVec::new();
         addresses.try_extend_from_slice(config.groups()).unwrap();
-        Groups { addresses }
+        GroupAddresses { addresses }
     }
 
     /// The number of a port's socket, which is that of its news too: 0 to 2 for process data,

@@ -2,12 +2,13 @@
 //! It has these as traits, so that a daemon is proved for each wire and each clock. It also lists
 //! the ports that a configuration names, and where the socket of each port is bound.
 //!
-//! - [`Wire`] is what datagrams come from and go to, each at a [`Port`] of the node. [`Clock`] is
-//!   what time is read from. [`Sockets`] are the datagram sockets of a system.
+//! - [`Wire`] is what datagrams come from and go to, each at a [`Port`] of the node. A
+//!   [`WatchedWire`] is one at which a daemon rests. [`Clock`] is what time is read from, and a
+//!   [`Sleeper`] one to sleep by. [`Sockets`] are the datagram sockets of a system.
 //! - [`ports_of`] lists the ports of a configuration in the order of a turn, and [`place_of_port`]
-//!   has the socket address of each. [`Groups`] gives each port the number of its socket.
+//!   has the socket address of each. [`GroupAddresses`] gives each port the number of its socket.
 //! - [`WireFault`], [`SocketFault`] and [`BindFault`] say what failed. A wire keeps the latest
-//!   [`Refusal`] and the latest [`Unread`] take, and names the files that are [`Missing`].
+//!   [`GiveRefusal`] and the latest [`Unread`] take, and names the files that are [`Missing`].
 //!
 //! ```text
 //! let ports = ports_of(alloc, &config)?;
@@ -33,30 +34,34 @@
 
 mod bind_fault;
 mod clock;
+mod configured_ports;
 mod fault;
 mod groups;
 mod missing;
 mod news;
 mod port;
-mod ports;
 mod refusal;
 mod seats;
+mod sleeper;
 mod socket_fault;
 mod sockets;
 mod unread;
+mod watched_wire;
 mod wire;
 
 pub use bind_fault::BindFault;
 pub use clock::Clock;
+pub use configured_ports::{control_number, ports_of, slot_number};
 pub use fault::{WireFault, fail};
-pub use groups::Groups;
+pub use groups::GroupAddresses;
 pub use missing::Missing;
 pub use news::{has_news, note_told, set_news};
 pub use port::Port;
-pub use ports::{control_number, ports_of, slot_number};
-pub use refusal::Refusal;
+pub use refusal::GiveRefusal;
 pub use seats::{group_place, place_of_port};
+pub use sleeper::Sleeper;
 pub use socket_fault::SocketFault;
 pub use sockets::Sockets;
 pub use unread::Unread;
+pub use watched_wire::WatchedWire;
 pub use wire::Wire;

@@ -6,7 +6,7 @@ use trdp_base::Place;
 
 /// A give that the wire refused.
 #[derive(Clone, Copy, Debug, PartialEq, Eq)]
-pub struct Refusal {
+pub struct GiveRefusal {
     /// The port that the datagram was to leave from.
     pub port: Port,
     /// Where it was to go.

@@ -3,8 +3,8 @@
 ghost use Rattle.std.specs.Prelude.{◌≡◌};
 ghost use Rattle.trdp_wire.specs.Ports.{group_place, place_of_port};
 
+use crate::configured_ports::control_number;
 use crate::port::Port;
-use crate::ports::control_number;
 use trdp_base::{Ip, Place};
 use trdp_dataset::NodeConfig;
 

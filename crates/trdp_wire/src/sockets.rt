@@ -2,8 +2,9 @@
 
 ghost use Rattle.std.specs.Prelude.{[], ◌∷◌, ◌≤◌, length, IfOk, IfSome};
 ghost use Rattle.trdp_wire.specs.News.{WaitsForNews};
-ghost use Rattle.trdp_wire.specs.Sockets.{Binds, TakesFrom, GivesFrom, Watches, fault_of};
-ghost use Rattle.trdp_wire.specs.Told.{TellsMore, arrived_in};
+ghost use Rattle.trdp_wire.specs.Sockets.{Binds, TakesFrom, GivesFrom, Watches, fault_of_result};
+ghost use Rattle.trdp_base.specs.Reported.{TellsMore};
+ghost use Rattle.trdp_wire.specs.Told.{arrived_in};
 
 use crate::bind_fault::BindFault;
 use crate::socket_fault::SocketFault;
@@ -27,7 +28,7 @@ pub trait Sockets {
     /// `OutOfMemory` where an allocation for it fails, and else `Bind`.
     fn bind(&mut self, socket: usize, place: Place, ttl: Option<u8>) -> Result<(), BindFault>
         ensures { TellsMore (calls self.old) (calls self.new)
-            (Binds socket place ttl (fault_of result) ∷ []) };
+            (Binds socket place ttl (fault_of_result result) ∷ []) };
 
     /// Takes the next datagram at a socket, if one is there: it is put at the front of the room,
     /// cut to it, and the answer is where it came from and how many bytes it has there.
@@ -49,7 +50,7 @@ pub trait Sockets {
     /// `SocketFault`, where the system refuses it.
     fn give(&mut self, socket: usize, to: Place, bytes: &[u8]) -> Result<(), SocketFault>
         ensures { TellsMore (calls self.old) (calls self.new)
-            (GivesFrom socket to bytes.now (fault_of result) ∷ []) };
+            (GivesFrom socket to bytes.now (fault_of_result result) ∷ []) };
 
     /// From now on a wait ends when a datagram comes at a socket.
     ///
@@ -57,7 +58,7 @@ pub trait Sockets {
     /// `OutOfMemory` where an allocation for it fails, and else `Bind`.
     fn watch(&mut self, alloc: Global, socket: usize) -> Result<(), BindFault>
         ensures { TellsMore (calls self.old) (calls self.new)
-            (Watches socket (fault_of result) ∷ []) };
+            (Watches socket (fault_of_result result) ∷ []) };
 
     /// Waits at most `millis` milliseconds, until something comes at one of the sockets that are
     /// watched, or came there since the last report of it. Sets the news of each socket at which

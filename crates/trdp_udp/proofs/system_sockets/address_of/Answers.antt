@@ -6,12 +6,12 @@ use Rattle.std.specs.Net.Socket.{v4_ip, v4_port}
 use Rattle.std.specs.declared.net.ipv4_addr.Ipv4Addr.{Ipv4Addr}
 use Rattle.std.specs.declared.net.socket_addr.SocketAddrV4.{SocketAddrV4}
 use Rattle.trdp_base.specs.declared.place.Place.{Place}
-use Rattle.trdp_udp.specs.SystemSockets.{place_at}
+use Rattle.trdp_udp.specs.SystemSockets.{place_of_address}
 use Rattle.trdp_udp.proofs.system_sockets.address_of.Goals as goal
 
 address_place : (a : SocketAddrV4) (ip : Ipv4Addr) (place : Place)
     → place.ip.0 < 2 ^ 32 → v4_ip a ≡ ip → v4_port a ≡ place.port
-    → IsIpv4OfBits ip place.ip.0 → place_at a ≡ place
+    → IsIpv4OfBits ip place.ip.0 → place_of_address a ≡ place
 unfolding ipv4_bits IsIpv4OfBits
 address_place a ip place small is at bits =
     let number : ipv4_bits (v4_ip a) ≡ place.ip.0 =

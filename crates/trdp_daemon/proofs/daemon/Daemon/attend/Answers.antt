@@ -4,7 +4,7 @@ use Rattle.trdp_daemon.proofs.RestLemmas.{attended_none, attended_more, served_u
 use Rattle.trdp_daemon.proofs.daemon.Daemon.attend.Goals as goal
 
 pub loop-turn-init : goal.loop-turn-init
-loop-turn-init g c = attended_none _ _ _ c.args.until c.args.self.now
+loop-turn-init g c = attended_none _ _ _ _ c.args.until c.args.self.now
 
 pub loop-turn-preserved : goal.loop-turn-preserved
 loop-turn-preserved g c =

@@ -9,7 +9,7 @@ use Rattle.trdp_wire.specs.declared.port.Port.{Port}
 use Rattle.trdp_daemon.specs.Daemons.{DaemonState}
 use Rattle.trdp_daemon.specs.Resting.{TakesTurnAt}
 use Rattle.trdp_daemon.specs.Services.{TakesAtPorts, service_state}
-use Rattle.trdp_wire.specs.Told.{TellsMore}
+use Rattle.trdp_base.specs.Reported.{TellsMore}
 use Rattle.trdp_daemon.specs.Turns.{begun, moment_of}
 use Rattle.trdp_daemon.proofs.DaemonLemmas.{daemon_of}
 use Rattle.trdp_daemon.proofs.RestLemmas.{turn_at}

@@ -1,6 +1,6 @@
 use Rattle.std.proofs.Common.{[], refl, ap}
 use Rattle.trdp_daemon.specs.declared.totals.Totals.{Totals}
-use Rattle.trdp_wire.proofs.ToldLemmas.{adds_none}
+use Rattle.trdp_base.proofs.ReportedLemmas.{adds_none}
 use Rattle.trdp_daemon.proofs.link.Link.miss.Goals as goal
 
 pub returns-clause-carried : goal.returns-clause-carried

@@ -28,9 +28,9 @@ returns-in-Ok-Some-clause-takes g c =
           w.in_default.not-Control w.port-is w.is_there-is
     ] in
     port_taken asks c.if-not-is_there.false
-    (visited_found c.args.self.now _ c.match-port.port _ c.take.result c.in-Ok-Some.from
-    c.in-Ok-Some.len c.take.new.room _ (c.in-Ok-Some.is ∙ ap Ok c.in-Ok-Some.field-0-is)
-    c.split_at.ensures.front (search rules) c.take.ensures.takes c.take_found.ensures.comes)
+    (visited_found c.args.self.now _ c.match-port.port (λ place. c.take-found.result.1) c.take-found.result.0 c.in-Ok-Some.from
+    c.in-Ok-Some.len c.take-found.new.room _ (c.in-Ok-Some.is ∙ ap Ok (rw c.in-Ok-Some.is at c.in-Ok-Some.field-0-is))
+    c.split_at.ensures.front (search rules) c.take-found.ensures.takes c.take_found.ensures.comes)
 
 pub returns-in-Ok-None-clause-takes : goal.returns-in-Ok-None-clause-takes
 returns-in-Ok-None-clause-takes g c =
@@ -42,8 +42,8 @@ returns-in-Ok-None-clause-takes g c =
           w.in_default.not-Control w.port-is w.is_there-is
     ] in
     port_taken asks c.if-not-is_there.false
-    (visited_nothing c.args.self.now _ c.match-port.port _ c.take.result c.take.new.room
-    (c.in-Ok-None.is ∙ ap Ok c.in-Ok-None.field-0-is) (search rules) c.take.ensures.takes
+    (visited_nothing c.args.self.now _ c.match-port.port (λ place. c.take-found.result.1) c.take-found.result.0 c.take-found.new.room
+    (c.in-Ok-None.is ∙ ap Ok (rw c.in-Ok-None.is at c.in-Ok-None.field-0-is)) (search rules) c.take-found.ensures.takes
     c.take_nothing.ensures.comes)
 
 pub returns-in-Err-clause-takes : goal.returns-in-Err-clause-takes
@@ -56,5 +56,5 @@ returns-in-Err-clause-takes g c =
           w.in_default.not-Control w.port-is w.is_there-is
     ] in
     port_taken asks c.if-not-is_there.false
-    (visited_fault c.args.self.now c.match-port.port _ c.take.result c.in-Err.field-0
-    c.take.new.room c.in-Err.is (search rules) c.take.ensures.takes)
+    (visited_fault c.args.self.now c.match-port.port (λ place. c.take-found.result.1) c.take-found.result.0 c.in-Err.field-0
+    c.take-found.new.room c.in-Err.is (search rules) c.take-found.ensures.takes)

@@ -6,8 +6,8 @@ use Rattle.trdp_memory.specs.MemoryWires.{is_failing, next_arrival, takes_at}
 use Rattle.std.specs.List.{count_by}
 use Rattle.trdp_memory.specs.declared.rows.TakeRow.{TakeRow}
 use Rattle.trdp_wire.specs.Ports.{is_port}
-use Rattle.trdp_memory.specs.Rows.{IsLaidDown, arrived_of, nowhere}
-use Rattle.trdp_wire.specs.Told.{arrived_in, taking_of}
+use Rattle.trdp_memory.specs.Rows.{IsLaidDown, arrived_of}
+use Rattle.trdp_wire.specs.Told.{nowhere, arrived_in, taking_of}
 use Rattle.trdp_memory.proofs.MemoryWireLemmas.{arrival_beyond, arrival_within, take_beyond}
 use Rattle.trdp_memory.proofs.MemoryWireLemmas.{take_within}
 use Rattle.trdp_memory.proofs.TakeRowLemmas.{takes_rows, takings_push, within_row, many_takings}

@@ -5,11 +5,9 @@ use Rattle.trdp_udp.proofs.resting_wire.RestingWire.over.Goals as goal
 pub returns-clause-fresh : goal.returns-clause-fresh
 returns-clause-fresh g c = record {
   clock_is = refl;
-  few_is = refl;
-  asks_each = refl;
   news = λ socket. each_there 98 socket;
   heard = refl;
-  goes_on = refl;
+  is_first = refl;
   busy = refl;
   rested = refl;
   failures = c.over.ensures.failures;
