@@ -8,11 +8,11 @@ use Rattle.std.proofs.lemmas.List.{map-append}
 use Rattle.std.specs.Prelude.{Result, Ok, Err, slice_get, unwrap_or}
 use Rattle.std.specs.List.{flat_map}
 use Rattle.std.specs.Result.{IsErrAnd}
-use Rattle.trdp_wire.specs.Sockets.{fault_of}
-use Rattle.trdp_wire.specs.Told.{TellsMore}
-use Rattle.trdp_wire.proofs.ToldLemmas.{adds_none, adds_both}
+use Rattle.trdp_wire.specs.Sockets.{fault_of_result}
+use Rattle.trdp_base.specs.Reported.{TellsMore}
+use Rattle.trdp_base.proofs.ReportedLemmas.{adds_none, adds_both}
 use Rattle.trdp_controls.specs.Folders.{Listening, ListensAt, granted, file_unless_0, file_of}
-use Rattle.trdp_controls.specs.Folders.{refusal_of, StopsListening, ListensInTurn}
+use Rattle.trdp_controls.specs.Folders.{refused_listening, StopsListening, ListensInTurn}
 use Rattle.trdp_controls.specs.declared.listen_fault.ListenFault.{ListenFault}
 use Rattle.trdp_controls.specs.declared.listen_fault.ListenFault.TheVariants.{OutOfMemory}
 
@@ -53,7 +53,7 @@ listened_stops files more rest fault a b c so_far stop =
     let done = so_far.done in
     let front = stop.front in
     let last = file_of stop.last in
-    let refusal = refusal_of stop.last fault in
+    let refusal = refused_listening stop.last fault in
     let told = adds_both a b c (map granted done) (map granted front ++ refusal) so_far.told
     stop.asked in
     record {
@@ -112,7 +112,7 @@ stops_wanting files a b told = record {
 pub stops_with : {X : Type 0} (files : List ℕ) (a b : Option (List Listening))
     (result : Result X ListenFault) (fault : ListenFault)
     → IsErrAnd result (λ f. f ≡ fault) → StopsListening files fault a b
-    → ListensInTurn files (fault_of result) a b
+    → ListensInTurn files (fault_of_result result) a b
 stops_with files a b (Ok x) fault same stop = absurd same
 stops_with files a b (Err f) fault same stop =
     subst (λ (g : ListenFault). StopsListening files g a b) (sym same) stop

@@ -18,9 +18,9 @@ use Rattle.trdp_controls.specs.declared.listen_fault.ListenFault.TheVariants.{Re
 use Rattle.trdp_controls.specs.declared.listen_fault.ListenFault.TheVariants.{OutOfMemory}
 
 -- what it means that a system refuses a path with an error of this kind
-abbrev pub fault_of_kind : ErrorKind → ListenFault
-fault_of_kind kind.OutOfMemory = OutOfMemory
-fault_of_kind _ = Refused
+abbrev pub listen_fault_of : ErrorKind → ListenFault
+listen_fault_of kind.OutOfMemory = OutOfMemory
+listen_fault_of _ = Refused
 
 -- what it means that a system accepts no connection, with an error of this kind: where it would
 -- have to wait, none is there

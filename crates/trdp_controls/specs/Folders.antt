@@ -3,11 +3,11 @@ use Rattle.std.specs.Prelude.{◌≡◌, ℕ, zero, suc, List, [], ◌∷◌, �
 use Rattle.std.specs.Prelude.{Option, Some, None, IfNone}
 use Rattle.std.specs.List.{flat_map}
 use Rattle.std.specs.Option.{option_map}
-use Rattle.trdp_lines.specs.OperatorPaths.{OperatorState}
-use Rattle.trdp_lines.specs.Paths.{PathState}
+use Rattle.trdp_lines.specs.Seats.{PathState}
 use Rattle.trdp_dataset.specs.Configs.{ConfigModel}
 use Rattle.trdp_wire.specs.Ports.{control_numbers}
-use Rattle.trdp_wire.specs.Told.{TellsMore}
+use Rattle.trdp_base.specs.Reported.{TellsMore}
+use Rattle.trdp_controls.specs.Paths.{path_of}
 use Rattle.trdp_controls.specs.declared.listen_fault.ListenFault.{ListenFault}
 use Rattle.trdp_controls.specs.declared.listen_fault.ListenFault.TheVariants.{OutOfMemory}
 
@@ -35,9 +35,9 @@ abbrev pub file_of : Option ℕ → List ℕ
 file_of None = []
 file_of (Some number) = number ∷ []
 
-abbrev pub refusal_of : Option ℕ → ListenFault → List Listening
-refusal_of None fault = []
-refusal_of (Some number) fault = ListensAt number (Some fault) ∷ []
+abbrev pub refused_listening : Option ℕ → ListenFault → List Listening
+refused_listening None fault = []
+refused_listening (Some number) fault = ListensAt number (Some fault) ∷ []
 
 -- a process listens at the first of these files, one after another; then one was refused with this
 -- fault, or an allocation failed for the next
@@ -47,7 +47,7 @@ pub record StopsListening (files : List ℕ) (fault : ListenFault)
   pub last : Option ℕ
   pub behind : List ℕ
   pub files_are : files ≡ front ++ (file_of last ++ behind)
-  pub asked : TellsMore old new (map granted front ++ refusal_of last fault)
+  pub asked : TellsMore old new (map granted front ++ refused_listening last fault)
   pub wanting : IfNone last (fault ≡ OutOfMemory)
 
 -- a process listens at each of these files, one after another; or it ended with this fault
@@ -56,19 +56,16 @@ abbrev pub ListensInTurn : List ℕ → Option ListenFault → Option (List List
 ListensInTurn files None old new = TellsMore old new (map granted files)
 ListensInTurn files (Some fault) old new = StopsListening files fault old new
 
--- the number of a port's file; None where the port's is 0
-abbrev pub number_unless_0 : ℕ → Option ℕ
-number_unless_0 zero = None
-number_unless_0 (suc n) = Some (suc n)
+-- the path of a port's file in a folder; None where the port's number is 0
+abbrev pub path_unless_0 : List ℕ → ℕ → Option (List ℕ)
+path_unless_0 folder zero = None
+path_unless_0 folder (suc n) = Some (path_of folder (suc n))
 
--- the number of the file of a path, if there is one
-abbrev pub number_of_path : {C : Type 0} → (C → ℕ) → Option (PathState C) → Option ℕ
-number_of_path number_in = option_map (λ path. number_in path.connections)
+-- where the lines of a control port come in, if there is a file for them
+abbrev pub control_file : {C : Type 0} → (C → List ℕ) → Option (PathState C) → Option (List ℕ)
+control_file file_of = option_map (λ path. file_of path.connections)
 
--- the same of the operator's
-abbrev pub number_of_operator : {C : Type 0} → (C → ℕ) → Option (OperatorState C) → Option ℕ
-number_of_operator number_in = option_map (λ path. number_in path.connections)
-
--- the numbers of the files of paths
-abbrev pub numbers_of : {C : Type 0} → (C → ℕ) → List (Option (PathState C)) → List (Option ℕ)
-numbers_of number_in = map (number_of_path number_in)
+-- the same of each control port
+abbrev pub control_files : {C : Type 0} → (C → List ℕ) → List (Option (PathState C))
+    → List (Option (List ℕ))
+control_files file_of = map (control_file file_of)

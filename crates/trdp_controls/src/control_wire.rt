@@ -1,19 +1,22 @@
 //! The wire of a node whose lines come over control sockets.
 
 ghost use Rattle.std.specs.Prelude.{◌≡◌, ◌<◌, ◌≤◌, length, IfOk, IfSome, OnOk, OnErr, None, Some};
+ghost use Rattle.std.specs.Prelude.{Bool, true, ◌||◌};
 ghost use Rattle.std.specs.Option.{option_map};
 ghost use Rattle.trdp_controls.specs.ControlWires.{GivesAtControl, GivesAtOperator};
 ghost use Rattle.trdp_controls.specs.ControlWires.{GivesOverNetwork, TakesAtControl};
 ghost use Rattle.trdp_controls.specs.ControlWires.{TakesAtOperator, TakesOverNetwork};
-ghost use Rattle.trdp_controls.specs.ControlWires.{GivesAtPort, IsUnasked, TakesAtPort, has_ended};
+ghost use Rattle.trdp_controls.specs.ControlWires.{GivesAtPort, IsUnasked, RestsOverNetwork};
+ghost use Rattle.trdp_controls.specs.ControlWires.{TakesAtPort};
 
 use crate::path_calls::{
-    accept_error, give_line, give_text_at, has_ended_at, missing_files, nothing,
-    operators_accept_error, take_line, take_operators_line,
+    accept_error, give_text, give_text_at, is_end_at, missing_files, nothing, take_line,
 };
 use trdp_base::Place;
 use trdp_lines::{Connections, ControlPath, OperatorPath};
-use trdp_wire::{Missing, Port, Refusal, SocketFault, Unread, Wire, WireFault, fail};
+use trdp_wire::{
+    GiveRefusal, Missing, Port, SocketFault, Unread, WatchedWire, Wire, WireFault, fail,
+};
 
 /// The system's number of its error where there is no room for what is to go out (ENOBUFS).
 const NO_BUFFER_SPACE: i32 = 105;
@@ -34,14 +37,14 @@ pub struct ControlWire<N: Wire, C: Connections> {
     /// How often a take or a give failed, at most 2^64 - 1.
     failures: u64,
     /// The latest give that was refused; None before the first.
-    refusal: Option<Refusal>,
+    refusal: Option<GiveRefusal>,
     /// The latest take that failed; None before the first.
     unread: Option<Unread>,
     /// Whether something came or failed at a path since the latest rest.
     heard: bool,
 }
 
-impl<N: Wire, C: Connections> ControlWire<N, C> {
+impl<N: WatchedWire, C: Connections> ControlWire<N, C> {
     ghost use Rattle.std.specs.Prelude.{◌≡◌, ◌<◌, ◌≤◌, ◌-◌, ◌^◌, length, IfOk, IfSome, OnErr};
     ghost use Rattle.std.specs.Prelude.{is_err, nat_lt, None, Some, OnOk};
     ghost use Rattle.std.specs.Option.{option_map};
@@ -49,6 +52,8 @@ impl<N: Wire, C: Connections> ControlWire<N, C> {
     ghost use Rattle.trdp_controls.specs.ControlWires.{GivesAtControl, GivesAtOperator};
     ghost use Rattle.trdp_controls.specs.ControlWires.{GivesOverNetwork, TakesAtControl};
     ghost use Rattle.trdp_controls.specs.ControlWires.{IsUnasked, TakesAtOperator};
+    ghost use Rattle.trdp_controls.specs.ControlWires.{control_at, has_ended_at};
+    ghost use Rattle.trdp_wire.specs.Told.{arrived_in, stands_for_end};
     ghost use Rattle.trdp_controls.specs.ControlWires.{TakesOverNetwork};
 
     /// A wire over a network and paths, before its first take: `controls` has at the index of each
@@ -76,35 +81,66 @@ impl<N: Wire, C: Connections> ControlWire<N, C> {
         }
     }
 
-    /// Takes the next datagram at a port of the network.
+    /// Takes the next datagram at a port of the network, as [`Wire::find`] does.
     ///
     /// # Errors
     /// `WireFault`, where the network fails.
-    fn take_telegram(
+    fn find_telegram(
         &mut self,
         port: Port,
+        anew: bool,
         room: &mut [u8],
-    ) -> Result<Option<(Place, usize)>, WireFault>
-        ensures within { IfOk result (λ found. IfSome found (λ f. f.1 ≤ length room.new)) }
+    ) -> (Result<Option<(Place, usize)>, WireFault>, bool)
+        ensures within { IfOk result.0 (λ found. IfSome found (λ f. f.1 ≤ length room.new)) }
         ensures takes { TakesOverNetwork (N.takings self.old.network) (N.takings self.new.network)
-            port (N.ended self.new.network port) result room.new self.old.failures }
-        ensures fault { OnErr result (self.old.failures < self.new.failures) }
+            port result.1 result.0 room.new self.old.failures }
+        ensures fault { OnErr result.0 (self.old.failures < self.new.failures) }
         ensures operator { self.new.operator ≡ self.old.operator }
         ensures controls { self.new.controls ≡ self.old.controls }
-        ensures kept { OnOk result (self.new.unread ≡ self.old.unread) }
-        ensures failed { OnErr result (option_map (λ u. u.port) self.new.unread ≡ Some port) }
+        ensures kept { OnOk result.0 (self.new.unread ≡ self.old.unread) }
+        ensures failed { OnErr result.0 (option_map (λ u. u.port) self.new.unread ≡ Some port) }
     {
-        match self.network.take(port, room) {
-            Ok(found) => Ok(found),
+        let (found, ended) = self.network.find(port, anew, room);
+        match found {
+            Ok(found) => (Ok(found), ended),
             Err(_) => {
                 let found = nothing(&mut self.failures);
                 if found.is_err() {
                     let fault = fault_of(self.network.unread());
                     self.unread = Some(Unread { port, fault });
                 }
-                found
+                (found, ended)
             }
         }
+    }
+
+    /// Takes the next line of the application of a slot, or its end, and returns which it is.
+    ///
+    /// # Errors
+    /// As [`ControlWire::take_control`].
+    fn find_control(
+        &mut self,
+        slot: u16,
+        anew: bool,
+        room: &mut [u8],
+    ) -> (Result<Option<(Place, usize)>, WireFault>, bool)
+        ensures within { IfOk result.0 (λ found. IfSome found (λ f. f.1 ≤ length room.new)) }
+        ensures takes { TakesAtControl C.calls slot self.old.controls.items
+            self.new.controls.items (length room.old) result.0 room.new self.old.failures }
+        ensures ends { result.1 ≡ stands_for_end
+            (has_ended_at (control_at self.new.controls.items slot))
+            (arrived_in result.0 room.new) }
+        ensures fault { OnErr result.0 (self.old.failures < self.new.failures) }
+        ensures network { IsUnasked N.takings N.gives N.news (Control slot) self.old.network
+            self.new.network }
+        ensures operator { self.new.operator ≡ self.old.operator }
+        ensures kept { OnOk result.0 (self.new.unread ≡ self.old.unread) }
+        ensures failed { OnErr result.0
+            (option_map (λ u. u.port) self.new.unread ≡ Some (Control slot)) }
+    {
+        let found = self.take_control(slot, anew, room);
+        let ended = is_end_at(&self.controls, usize::from(slot), found);
+        (found, ended)
     }
 
     /// Takes the next line of the application of a slot, or its end.
@@ -114,16 +150,19 @@ impl<N: Wire, C: Connections> ControlWire<N, C> {
     fn take_control(
         &mut self,
         slot: u16,
+        anew: bool,
         room: &mut [u8],
     ) -> Result<Option<(Place, usize)>, WireFault>
         ensures within { IfOk result (λ found. IfSome found (λ f. f.1 ≤ length room.new)) }
         ensures takes { TakesAtControl C.calls slot self.old.controls.items
             self.new.controls.items (length room.old) result room.new self.old.failures }
         ensures fault { OnErr result (self.old.failures < self.new.failures) }
-        ensures network { IsUnasked N.takings N.gives self.old.network self.new.network }
+        ensures network { IsUnasked N.takings N.gives N.news (Control slot) self.old.network
+            self.new.network }
         ensures operator { self.new.operator ≡ self.old.operator }
         ensures kept { OnOk result (self.new.unread ≡ self.old.unread) }
-        ensures failed { OnErr result (option_map (λ u. u.port) self.new.unread ≡ Some (Control slot)) }
+        ensures failed { OnErr result
+            (option_map (λ u. u.port) self.new.unread ≡ Some (Control slot)) }
     {
         let index = usize::from(slot);
         if index >= self.controls.len() {
@@ -138,7 +177,7 @@ impl<N: Wire, C: Connections> ControlWire<N, C> {
                 fault: SocketFault { code },
             });
         }
-        self.note(Port::Control(slot), heard, found.is_ok());
+        self.note(Port::Control(slot), anew, heard || found.is_err(), heard);
         found
     }
 
@@ -146,32 +185,39 @@ impl<N: Wire, C: Connections> ControlWire<N, C> {
     ///
     /// # Errors
     /// As [`ControlWire::take_control`].
-    fn take_operator(&mut self, room: &mut [u8]) -> Result<Option<(Place, usize)>, WireFault>
+    fn take_operator(
+        &mut self,
+        anew: bool,
+        room: &mut [u8],
+    ) -> Result<Option<(Place, usize)>, WireFault>
         ensures within { IfOk result (λ found. IfSome found (λ f. f.1 ≤ length room.new)) }
         ensures takes { TakesAtOperator C.calls self.old.operator self.new.operator
             (length room.old) result room.new self.old.failures }
         ensures fault { OnErr result (self.old.failures < self.new.failures) }
-        ensures network { IsUnasked N.takings N.gives self.old.network self.new.network }
+        ensures network { IsUnasked N.takings N.gives N.news Operator self.old.network
+            self.new.network }
         ensures controls { self.new.controls ≡ self.old.controls }
         ensures kept { OnOk result (self.new.unread ≡ self.old.unread) }
         ensures failed { OnErr result (option_map (λ u. u.port) self.new.unread ≡ Some Operator) }
     {
-        let (found, heard) = take_operators_line(&mut self.operator, room, &mut self.failures);
+        let (found, heard) = take_line(&mut self.operator, room, &mut self.failures);
         if found.is_err() {
-            let code = operators_accept_error(&self.operator);
+            let code = accept_error(&self.operator);
             self.unread = Some(Unread {
                 port: Port::Operator,
                 fault: SocketFault { code },
             });
         }
-        self.note(Port::Operator, heard, found.is_ok());
+        self.note(Port::Operator, anew, heard || found.is_err(), heard);
         found
     }
 
-    /// Notes the result of a take at a path. Where nothing was heard, nothing is there up to the
-    /// next news of it; a take that failed is made again.
-    fn note(&mut self, port: Port, heard: bool, is_sound: bool)
-        ensures network { IsUnasked N.takings N.gives self.old.network self.new.network }
+    /// Notes the result of a take at a path: whether more may be there, and whether something was
+    /// heard. Where nothing may be there, that holds up to the next news of it; a take that failed
+    /// is made again. No other port's news change.
+    fn note(&mut self, port: Port, anew: bool, may_be: bool, heard: bool)
+        ensures network { IsUnasked N.takings N.gives N.news port self.old.network
+            self.new.network }
         ensures failures { self.new.failures ≡ self.old.failures }
         ensures unread { self.new.unread ≡ self.old.unread }
         ensures operator { self.new.operator ≡ self.old.operator }
@@ -179,8 +225,9 @@ impl<N: Wire, C: Connections> ControlWire<N, C> {
     {
         if heard {
             self.heard = true;
-        } else if is_sound {
-            self.network.set_news(port, false);
+        }
+        if anew || !may_be {
+            self.network.set_news(port, may_be);
         }
     }
 
@@ -232,7 +279,7 @@ impl<N: Wire, C: Connections> ControlWire<N, C> {
         ensures network { self.new.network ≡ self.old.network }
         ensures controls { self.new.controls ≡ self.old.controls }
     {
-        match give_line(&mut self.operator, to, text) {
+        match give_text(&mut self.operator, to, text) {
             Ok(()) => Ok(()),
             Err(_) => self.lose(Port::Operator, to),
         }
@@ -253,12 +300,12 @@ impl<N: Wire, C: Connections> ControlWire<N, C> {
         let fault = SocketFault {
             code: Some(NO_BUFFER_SPACE),
         };
-        self.refusal = Some(Refusal { port, to, fault });
+        self.refusal = Some(GiveRefusal { port, to, fault });
         fail(&mut self.failures)
     }
 }
 
-impl<N: Wire, C: Connections> Wire for ControlWire<N, C> {
+impl<N: WatchedWire, C: Connections> Wire for ControlWire<N, C> {
     ghost use Rattle.std.specs.Prelude.{None};
 
     ghost takings = { λ _. None };
@@ -267,26 +314,41 @@ impl<N: Wire, C: Connections> Wire for ControlWire<N, C> {
 
     ghost faults = { λ wire. wire.failures };
 
-    ghost news = { λ wire. N.news wire.network };
-
-    ghost ended = { has_ended N.ended };
-
     fn take(&mut self, port: Port, room: &mut [u8]) -> Result<Option<(Place, usize)>, WireFault>
         ensures within { IfOk result (λ found. IfSome found (λ f. f.1 ≤ length room.new)) }
         ensures fault { OnErr result (self.old.failures < self.new.failures) }
-        ensures takes { TakesAtPort N.takings N.gives N.ended C.calls
+        ensures takes { (ended : Bool) × TakesAtPort N.takings N.gives N.news C.calls
             (N.news self.old.network port) self.old self.new port (length room.old) result
-            room.new }
+            ended room.new }
         ensures kept { OnOk result (self.new.unread ≡ self.old.unread) }
         ensures failed { OnErr result (option_map (λ u. u.port) self.new.unread ≡ Some port) }
     {
+        let (found, _) = self.find(port, false, room);
+        found
+    }
+
+    fn find(
+        &mut self,
+        port: Port,
+        anew: bool,
+        room: &mut [u8],
+    ) -> (Result<Option<(Place, usize)>, WireFault>, bool)
+        ensures within { IfOk result.0 (λ found. IfSome found (λ f. f.1 ≤ length room.new)) }
+        ensures fault { OnErr result.0 (self.old.failures < self.new.failures) }
+        ensures takes { TakesAtPort N.takings N.gives N.news C.calls
+            (anew || N.news self.old.network port) self.old self.new port (length room.old)
+            result.0 result.1 room.new }
+        ensures kept { OnOk result.0 (self.new.unread ≡ self.old.unread) }
+        ensures failed { OnErr result.0 (option_map (λ u. u.port) self.new.unread ≡ Some port) }
+    {
+        let looks = anew || self.network.has_news(port);
         match port {
             Port::Pd | Port::Md | Port::PdGroup(_) | Port::MdGroup(_) => {
-                self.take_telegram(port, room)
+                self.find_telegram(port, anew, room)
             }
-            _ if !self.network.has_news(port) => Ok(None),
-            Port::Operator => self.take_operator(room),
-            Port::Control(slot) => self.take_control(slot, room),
+            _ if !looks => (Ok(None), false),
+            Port::Operator => (self.take_operator(anew, room), false),
+            Port::Control(slot) => self.find_control(slot, anew, room),
         }
     }
 
@@ -303,47 +365,11 @@ impl<N: Wire, C: Connections> Wire for ControlWire<N, C> {
         }
     }
 
-    fn rest(&mut self, most: u64)
-        ensures fault { self.new.failures ≡ self.old.failures }
-        ensures operator { self.new.operator ≡ self.old.operator }
-        ensures controls { self.new.controls.items ≡ self.old.controls.items }
-    {
-        // More may be where something was heard: then no time is left for the network to wait.
-        let most = if self.heard { 0 } else { most };
-        self.heard = false;
-        self.network.rest(most);
-    }
-
-    fn has_news(&self, port: Port) -> bool {
-        self.network.has_news(port)
-    }
-
-    fn has_ended(&self, port: Port, place: Place) -> bool
-        ensures { result ≡ has_ended N.ended self.now port place }
-    {
-        match port {
-            Port::Pd | Port::Md | Port::PdGroup(_) | Port::MdGroup(_) => {
-                self.network.has_ended(port, place)
-            }
-            Port::Operator => false,
-            Port::Control(slot) => has_ended_at(&self.controls, usize::from(slot), place),
-        }
-    }
-
-    fn set_news(&mut self, port: Port, may_be: bool)
-        ensures fault { self.new.failures ≡ self.old.failures }
-        ensures network { IsUnasked N.takings N.gives self.old.network self.new.network }
-        ensures operator { self.new.operator ≡ self.old.operator }
-        ensures controls { self.new.controls ≡ self.old.controls }
-    {
-        self.network.set_news(port, may_be);
-    }
-
     fn failures(&self) -> u64 {
         self.failures
     }
 
-    fn refusal(&self) -> Option<Refusal>
+    fn refusal(&self) -> Option<GiveRefusal>
         ensures { result ≡ self.now.refusal }
     {
         self.refusal
@@ -357,6 +383,44 @@ impl<N: Wire, C: Connections> Wire for ControlWire<N, C> {
 
     fn missing(&self) -> Missing<'_> {
         missing_files(&self.operator, &self.controls)
+    }
+}
+
+impl<N: WatchedWire, C: Connections> WatchedWire for ControlWire<N, C> {
+    ghost use Rattle.trdp_wire.specs.News.{IsNoted};
+    ghost use Rattle.trdp_wire.specs.Ports.{are_apart};
+    ghost use Rattle.trdp_wire.specs.declared.port.Port.{Port};
+
+    ghost news = { λ wire. N.news wire.network };
+
+    ghost rested = { RestsOverNetwork N.rested };
+
+    fn rest(&mut self, most: u64)
+        ensures rests { RestsOverNetwork N.rested self.old self.new most }
+        ensures fault { self.new.failures ≡ self.old.failures }
+    {
+        // More may be where something was heard: then no time is left for the network to wait.
+        let most = if self.heard { 0 } else { most };
+        self.heard = false;
+        self.network.rest(most);
+    }
+
+    fn has_news(&self, port: Port) -> bool {
+        self.network.has_news(port)
+    }
+
+    fn set_news(&mut self, port: Port, may_be: bool)
+        ensures noted { IsNoted may_be (N.news self.old.network port)
+            (N.news self.new.network port) }
+        ensures others { (other : Port) → are_apart port other ≡ true
+            → N.news self.new.network other ≡ N.news self.old.network other }
+        ensures fault { self.new.failures ≡ self.old.failures }
+        ensures network { IsUnasked N.takings N.gives N.news port self.old.network
+            self.new.network }
+        ensures operator { self.new.operator ≡ self.old.operator }
+        ensures controls { self.new.controls ≡ self.old.controls }
+    {
+        self.network.set_news(port, may_be);
     }
 }
 

@@ -8,9 +8,10 @@
 //!   one of its paths.
 //!
 //! ```text
-//! let network = RestingWire::bind_network(rt, rt.alloc(), &config)?;
-//! let mut folder = SystemFolder::new(rt, rt.alloc(), "/run/trdpd", network.registry()?);
-//! let wire = ControlWire::open(rt.alloc(), &mut folder, network, &config)?;
+//! let network = RestingWire::open(alloc, sockets, clock, &config, BoundPorts::Network)?;
+//! let mut folder = SystemFolder::new(rt, alloc, "/run/trdpd");
+//! folder.report_to(network.registry()?);
+//! let wire = ControlWire::open(alloc, &mut folder, network, &config)?;
 //! ```
 //!
 //! A socket's file at which no process listens any more is replaced; nothing else at the path is
@@ -28,7 +29,7 @@
 //! `trdp_program` serves a node over this wire where it is given a folder.
 //!
 //! **Proved**, for any network, folder and connections: which files are listened at, in which
-//! order; what a take and a give at a port do on either side. A take at the control port of a slot
+//! folder and in which order; what a take and a give at a port do on either side. A take at the control port of a slot
 //! is one at the path of that slot and at no other, and the place that a line comes from is the
 //! number of its connection.
 //!

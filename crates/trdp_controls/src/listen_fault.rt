@@ -2,7 +2,7 @@
 
 ghost use Rattle.std.specs.Prelude.{◌≡◌};
 ghost use Rattle.std.specs.IoError.{error_kind};
-ghost use Rattle.trdp_controls.specs.Answers.{fault_of_kind};
+ghost use Rattle.trdp_controls.specs.Answers.{listen_fault_of};
 
 use std::io;
 use thiserror::Error;
@@ -20,7 +20,7 @@ pub enum ListenFault {
 
 /// What it means that the system refuses a path.
 pub(crate) fn listen_fault(error: io::Error) -> ListenFault
-    ensures { result ≡ fault_of_kind (error_kind error) }
+    ensures { result ≡ listen_fault_of (error_kind error) }
 {
     match error.kind() {
         io::ErrorKind::OutOfMemory => ListenFault::OutOfMemory,

@@ -5,24 +5,24 @@ ghost use Rattle.std.specs.Prelude.{◌≡◌, ◌∷◌, [], ◌++◌, map, IfO
 ghost use Rattle.std.specs.Option.{option_map};
 ghost use Rattle.std.specs.List.{flat_map};
 ghost use Rattle.trdp_wire.specs.Ports.{control_numbers};
-ghost use Rattle.trdp_wire.specs.Sockets.{fault_of};
-ghost use Rattle.trdp_controls.specs.Folders.{ListensInTurn, file_unless_0, number_of_operator};
-ghost use Rattle.trdp_controls.specs.Folders.{number_of_path, number_unless_0, numbers_of};
+ghost use Rattle.trdp_wire.specs.Sockets.{fault_of_result};
+ghost use Rattle.trdp_controls.specs.Folders.{ListensInTurn, control_file, control_files};
+ghost use Rattle.trdp_controls.specs.Folders.{file_unless_0, path_unless_0};
 
 use crate::control_wire::ControlWire;
 use crate::folder::Folder;
 use crate::listen_fault::ListenFault;
 use std::alloc::Global;
 use trdp_dataset::NodeConfig;
-use trdp_lines::{Connections, ControlPath, OperatorPath};
-use trdp_wire::{Groups, Port, Wire, control_number};
+use trdp_lines::{Connections, ControlPath, Path, Policy};
+use trdp_wire::{GroupAddresses, Port, WatchedWire, control_number};
 
-impl<N: Wire + Drop, C: Connections + Drop> ControlWire<N, C> {
+impl<N: WatchedWire + Drop, C: Connections + Drop> ControlWire<N, C> {
     ghost use Rattle.std.specs.Prelude.{◌≡◌, map, IfOk};
     ghost use Rattle.trdp_wire.specs.Ports.{control_numbers};
-    ghost use Rattle.trdp_wire.specs.Sockets.{fault_of};
-    ghost use Rattle.trdp_controls.specs.Folders.{ListensInTurn, files_of, number_of_operator};
-    ghost use Rattle.trdp_controls.specs.Folders.{number_unless_0, numbers_of};
+    ghost use Rattle.trdp_wire.specs.Sockets.{fault_of_result};
+    ghost use Rattle.trdp_controls.specs.Folders.{ListensInTurn, control_file, control_files};
+    ghost use Rattle.trdp_controls.specs.Folders.{files_of, path_unless_0};
 
     /// Listens at the paths of a configuration, one after another in the order of a turn: the file
     /// of the operator's port, and those of the control ports of the slots and of the spare ones.
@@ -37,44 +37,19 @@ impl<N: Wire + Drop, C: Connections + Drop> ControlWire<N, C> {
         network: N,
         config: &NodeConfig,
     ) -> Result<ControlWire<N, C>, ListenFault>
-        ensures listens { ListensInTurn (files_of config.now) (fault_of result)
+        ensures listens { ListensInTurn (files_of config.now) (fault_of_result result)
             (F.listenings folder.old) (F.listenings folder.new) }
-        ensures operator { IfOk result (λ wire. number_of_operator C.file_number wire.operator
-            ≡ number_unless_0 config.now.operator_port) }
-        ensures controls { IfOk result (λ wire. numbers_of C.file_number wire.controls.items
-            ≡ map number_unless_0 (control_numbers config.now)) }
+        ensures operator { IfOk result (λ wire. control_file F.file_of wire.operator
+            ≡ path_unless_0 (F.path folder.old) config.now.operator_port) }
+        ensures controls { IfOk result (λ wire. control_files F.file_of wire.controls.items
+            ≡ map (path_unless_0 (F.path folder.old)) (control_numbers config.now)) }
         ensures network { IfOk result (λ wire. wire.network ≡ network) }
         ensures failures { IfOk result (λ wire. wire.failures ≡ 0) }
     {
-        let socket = Groups::of(config).socket_of(Port::Operator);
-        let operator = operator_path(alloc, folder, config.operator_port(), socket)?;
+        let socket = GroupAddresses::of(config).socket_of(Port::Operator);
+        let operator = path_at(alloc, folder, config.operator_port(), socket)?;
         let controls = control_paths(alloc, folder, config)?;
         Ok(ControlWire::new(network, operator, controls))
-    }
-}
-
-/// Listens at the file of the operator's port, unless its number is 0.
-///
-/// # Errors
-/// The folder's fault, and `OutOfMemory`.
-fn operator_path<C: Connections + Drop, F: Folder<C>>(
-    alloc: Global,
-    folder: &mut F,
-    number: u16,
-    socket: usize,
-) -> Result<Option<OperatorPath<C>>, ListenFault>
-    ensures listens { ListensInTurn (file_unless_0 number) (fault_of result)
-        (F.listenings folder.old) (F.listenings folder.new) }
-    ensures number { IfOk result (λ path. number_of_operator C.file_number path
-        ≡ number_unless_0 number) }
-{
-    match connections_at(folder, number, socket) {
-        Ok(Some(connections)) => match OperatorPath::new(alloc, connections) {
-            Ok(path) => Ok(Some(path)),
-            Err(_) => Err(ListenFault::OutOfMemory),
-        },
-        Ok(None) => Ok(None),
-        Err(fault) => Err(fault),
     }
 }
 
@@ -88,11 +63,11 @@ fn control_paths<C: Connections + Drop, F: Folder<C>>(
     config: &NodeConfig,
 ) -> Result<Vec<Option<ControlPath<C>>>, ListenFault>
     ensures listens { ListensInTurn (flat_map file_unless_0 (control_numbers config.now))
-        (fault_of result) (F.listenings folder.old) (F.listenings folder.new) }
-    ensures numbers { IfOk result (λ paths. numbers_of C.file_number paths.items
-        ≡ map number_unless_0 (control_numbers config.now)) }
+        (fault_of_result result) (F.listenings folder.old) (F.listenings folder.new) }
+    ensures files { IfOk result (λ paths. control_files F.file_of paths.items
+        ≡ map (path_unless_0 (F.path folder.old)) (control_numbers config.now)) }
 {
-    let groups = Groups::of(config);
+    let groups = GroupAddresses::of(config);
     let mut paths = Vec::new(alloc);
     for slot in 0..config.slots() + config.spare_control_ports() {
         let number = control_number(config, slot).unwrap_or(0);
@@ -103,7 +78,7 @@ fn control_paths<C: Connections + Drop, F: Folder<C>>(
 }
 
 /// The number of the socket that the control port of a slot would have.
-fn socket_of_slot(groups: &Groups, slot: usize) -> usize {
+fn socket_of_slot(groups: &GroupAddresses, slot: usize) -> usize {
     groups.socket_of(Port::Control(u16::try_from(slot).unwrap_or(u16::MAX)))
 }
 
@@ -118,35 +93,38 @@ fn push_path<C: Connections + Drop, F: Folder<C>>(
     socket: usize,
     paths: &mut Vec<Option<ControlPath<C>>>,
 ) -> Result<(), ListenFault>
-    ensures listens { ListensInTurn (file_unless_0 number) (fault_of result)
+    ensures listens { ListensInTurn (file_unless_0 number) (fault_of_result result)
         (F.listenings folder.old) (F.listenings folder.new) }
-    ensures pushed { OnOk result (numbers_of C.file_number paths.new.items
-        ≡ numbers_of C.file_number paths.old.items ++ number_unless_0 number ∷ []) }
+    ensures pushed { OnOk result (control_files F.file_of paths.new.items
+        ≡ control_files F.file_of paths.old.items
+        ++ path_unless_0 (F.path folder.old) number ∷ []) }
+    ensures stays { F.path folder.new ≡ F.path folder.old }
 {
-    let path = control_path(alloc, folder, number, socket)?;
+    let path = path_at(alloc, folder, number, socket)?;
     match paths.push(path) {
         Ok(()) => Ok(()),
         Err(_) => Err(ListenFault::OutOfMemory),
     }
 }
 
-/// Listens at the file of a control port, unless its number is 0.
+/// Listens at the file of a port, unless its number is 0: the path of the port.
 ///
 /// # Errors
 /// The folder's fault, and `OutOfMemory`.
-fn control_path<C: Connections + Drop, F: Folder<C>>(
+fn path_at<C: Connections + Drop, P: Policy + Drop, F: Folder<C>>(
     alloc: Global,
     folder: &mut F,
     number: u16,
     socket: usize,
-) -> Result<Option<ControlPath<C>>, ListenFault>
-    ensures listens { ListensInTurn (file_unless_0 number) (fault_of result)
+) -> Result<Option<Path<C, P>>, ListenFault>
+    ensures listens { ListensInTurn (file_unless_0 number) (fault_of_result result)
         (F.listenings folder.old) (F.listenings folder.new) }
-    ensures number { IfOk result (λ path. number_of_path C.file_number path
-        ≡ number_unless_0 number) }
+    ensures file { IfOk result (λ path. control_file F.file_of path
+        ≡ path_unless_0 (F.path folder.old) number) }
+    ensures stays { F.path folder.new ≡ F.path folder.old }
 {
     match connections_at(folder, number, socket) {
-        Ok(Some(connections)) => match ControlPath::new(alloc, connections) {
+        Ok(Some(connections)) => match Path::new(alloc, connections) {
             Ok(path) => Ok(Some(path)),
             Err(_) => Err(ListenFault::OutOfMemory),
         },
@@ -164,10 +142,11 @@ fn connections_at<C: Connections, F: Folder<C>>(
     number: u16,
     socket: usize,
 ) -> Result<Option<C>, ListenFault>
-    ensures listens { ListensInTurn (file_unless_0 number) (fault_of result)
+    ensures listens { ListensInTurn (file_unless_0 number) (fault_of_result result)
         (F.listenings folder.old) (F.listenings folder.new) }
-    ensures number { IfOk result (λ found. option_map C.file_number found
-        ≡ number_unless_0 number) }
+    ensures file { IfOk result (λ found. option_map F.file_of found
+        ≡ path_unless_0 (F.path folder.old) number) }
+    ensures stays { F.path folder.new ≡ F.path folder.old }
     ensures none_came { IfOk result (λ found. IfSome found (λ connections.
         IfSome (C.calls connections) (λ calls. calls ≡ []))) }
 {

@@ -1,15 +1,15 @@
 //! One call at a path of a wire, of which there may be none.
 
 ghost use Rattle.std.specs.Prelude.{◌≡◌, ◌<◌, ◌≤◌, ◌-◌, ◌^◌, length, IfOk, IfSome, OnErr, None};
-ghost use Rattle.std.specs.Prelude.{◌&&◌, is_err, nat_lt};
+ghost use Rattle.std.specs.Prelude.{◌&&◌, is_err, nat_lt, List, ℕ};
 ghost use Rattle.std.specs.Option.{option_map};
-ghost use Rattle.trdp_controls.specs.ControlWires.{SaysAtControl, SaysAtOperator, SaysAtPath};
-ghost use Rattle.trdp_controls.specs.ControlWires.{control_at, has_ended_at};
-ghost use Rattle.trdp_controls.specs.ControlWires.{TakesAtOperator, TakesAtPath, found_in, placed};
+ghost use Rattle.trdp_controls.specs.ControlWires.{SaysAtControl, SaysAtPath, TakesAtPath};
+ghost use Rattle.trdp_controls.specs.ControlWires.{control_at, found_in, has_ended_at, found_place};
+ghost use Rattle.trdp_wire.specs.Told.{arrived_in, stands_for_end};
 
 use crate::place::{number_of, place_of};
 use trdp_base::Place;
-use trdp_lines::{AcceptFault, Connections, ControlPath, LostText, OperatorPath};
+use trdp_lines::{AcceptFault, Connections, ControlPath, LostText, OperatorPath, Path, Policy};
 use trdp_wire::{Missing, WireFault, fail};
 
 /// What a take that failed finds: nothing, and the failure is counted.
@@ -35,7 +35,7 @@ fn answer_of(
     taken: Result<Option<(u64, usize)>, AcceptFault>,
     failures: &mut u64,
 ) -> Result<Option<(Place, usize)>, WireFault>
-    ensures found { found_in result ≡ option_map placed (found_in taken) }
+    ensures found { found_in result ≡ option_map found_place (found_in taken) }
     ensures fails { is_err result ≡ is_err taken && nat_lt failures.old (2 ^ 64 - 1) }
     ensures fault { OnErr result (failures.old < failures.new) }
 {
@@ -48,37 +48,17 @@ fn answer_of(
 
 /// Takes the next line at a path, or the end of its application; nothing ever comes where there is
 /// no path. Returns too whether something was heard there.
-pub(crate) fn take_line<C: Connections>(
-    control: &mut Option<ControlPath<C>>,
+pub(crate) fn take_line<C: Connections, P: Policy>(
+    path: &mut Option<Path<C, P>>,
     room: &mut [u8],
     failures: &mut u64,
 ) -> (Result<Option<(Place, usize)>, WireFault>, bool)
     ensures within { IfOk result.0 (λ found. IfSome found (λ f. f.1 ≤ length room.new)) }
-    ensures takes { TakesAtPath C.calls control.old control.new (length room.old) result.0
+    ensures takes { TakesAtPath P.rule C.calls path.old path.new (length room.old) result.0
         room.new failures.old }
     ensures fault { OnErr result.0 (failures.old < failures.new) }
 {
-    let Some(path) = control else {
-        return (Ok(None), false);
-    };
-    let taken = path.take(room);
-    let heard = path.has_heard();
-    (answer_of(taken, failures), heard)
-}
-
-/// Takes the next line at the operator's path; nothing ever comes where there is none. Returns too
-/// whether something was heard there.
-pub(crate) fn take_operators_line<C: Connections>(
-    operator: &mut Option<OperatorPath<C>>,
-    room: &mut [u8],
-    failures: &mut u64,
-) -> (Result<Option<(Place, usize)>, WireFault>, bool)
-    ensures within { IfOk result.0 (λ found. IfSome found (λ f. f.1 ≤ length room.new)) }
-    ensures takes { TakesAtOperator C.calls operator.old operator.new (length room.old) result.0
-        room.new failures.old }
-    ensures fault { OnErr result.0 (failures.old < failures.new) }
-{
-    let Some(path) = operator else {
+    let Some(path) = path else {
         return (Ok(None), false);
     };
     let taken = path.take(room);
@@ -88,18 +68,8 @@ pub(crate) fn take_operators_line<C: Connections>(
 
 /// The system's number of its error (errno) at the latest connection that it refused at a path; None
 /// where there is no path, and where the system gives no number.
-pub(crate) fn accept_error<C: Connections>(control: &Option<ControlPath<C>>) -> Option<i32> {
-    match control {
-        Some(path) => path.connections().accept_error(),
-        None => None,
-    }
-}
-
-/// The same at the operator's path.
-pub(crate) fn operators_accept_error<C: Connections>(
-    operator: &Option<OperatorPath<C>>,
-) -> Option<i32> {
-    match operator {
+pub(crate) fn accept_error<C: Connections, P: Policy>(path: &Option<Path<C, P>>) -> Option<i32> {
+    match path {
         Some(path) => path.connections().accept_error(),
         None => None,
     }
@@ -130,9 +100,24 @@ fn note_file<'a>(missing: &mut Missing<'a>, file: Option<&'a str>) {
     }
 }
 
+/// Whether what a take found at the path of a slot is the end of its application.
+pub(crate) fn is_end_at<C: Connections>(
+    controls: &[Option<ControlPath<C>>],
+    slot: usize,
+    found: Result<Option<(Place, usize)>, WireFault>,
+) -> bool
+    ensures { (room : List ℕ) → result
+        ≡ stands_for_end (has_ended_at (control_at controls.now slot)) (arrived_in found room) }
+{
+    match found {
+        Ok(Some((from, _))) => has_ended_at(controls, slot, from),
+        _ => false,
+    }
+}
+
 /// Whether the application of a slot that was at a place has ended: its connection speaks no more.
 /// False where there is no path.
-pub(crate) fn has_ended_at<C: Connections>(
+fn has_ended_at<C: Connections>(
     controls: &[Option<ControlPath<C>>],
     slot: usize,
     place: Place,
@@ -165,35 +150,18 @@ pub(crate) fn give_text_at<C: Connections>(
     give_text(control, to, text)
 }
 
-/// Says a text at a path to the connection of the place, if that is the one that speaks.
+/// Says a text at a path to the connection of the place, if it has a seat there.
 ///
 /// # Errors
 /// `LostText`, where there is no room for it.
-fn give_text<C: Connections>(
-    control: &mut Option<ControlPath<C>>,
+pub(crate) fn give_text<C: Connections, P: Policy>(
+    path: &mut Option<Path<C, P>>,
     to: Place,
     text: &[u8],
 ) -> Result<(), LostText>
-    ensures { SaysAtPath C.calls control.old control.new to text.now result }
+    ensures { SaysAtPath C.calls path.old path.new to text.now result }
 {
-    match control {
-        Some(path) => path.give(number_of(to), text),
-        None => Ok(()),
-    }
-}
-
-/// Says a text at the operator's path to the connection of the place, if it has a seat there.
-///
-/// # Errors
-/// `LostText`, where there is no room for it.
-pub(crate) fn give_line<C: Connections>(
-    operator: &mut Option<OperatorPath<C>>,
-    to: Place,
-    text: &[u8],
-) -> Result<(), LostText>
-    ensures { SaysAtOperator C.calls operator.old operator.new to text.now result }
-{
-    match operator {
+    match path {
         Some(path) => path.give(number_of(to), text),
         None => Ok(()),
     }

@@ -1,7 +1,8 @@
 //! The connections of the system at a path.
 
-ghost use Rattle.std.specs.Prelude.{◌≡◌, ◌<◌, length, IfOk};
+ghost use Rattle.std.specs.Prelude.{◌≡◌, ◌<◌, length, string_bytes, IfOk};
 ghost use Rattle.std.specs.Io.{ReadsAtMost, WritesAtMost};
+ghost use Rattle.trdp_controls.specs.Paths.{path_of};
 
 use crate::answers::{came_of, unaccepted_of, went_of};
 use crate::listen_fault::{ListenFault, listen_fault};
@@ -68,7 +69,9 @@ impl<'a, R: Files + Net> SystemConnections<'a, R> {
         file_number: u16,
         teller: Option<Teller>,
     ) -> Result<SystemConnections<'a, R>, ListenFault>
-        ensures { IfOk result (λ connections. connections.file_number ≡ file_number) }
+        ensures number { IfOk result (λ connections. connections.file_number ≡ file_number) }
+        ensures path { IfOk result (λ connections.
+            string_bytes connections.path ≡ path_of folder.now file_number) }
     {
         let path = socket_path(alloc, folder, file_number)?;
         match listen_at(rt, path.as_str(), &teller) {

@@ -1,5 +1,7 @@
 //! A folder of the system.
 
+ghost use Rattle.std.specs.Prelude.{◌≡◌};
+
 use crate::folder::Folder;
 use crate::listen_fault::{ListenFault, listen_fault};
 use crate::system_connections::SystemConnections;
@@ -26,19 +28,15 @@ pub struct SystemFolder<'a, R: Files + Net> {
 }
 
 impl<'a, R: Files + Net> SystemFolder<'a, R> {
-    /// A folder, at whose files no process listens yet. The system reports to the registry, if
-    /// there is one, what comes at each of them.
-    pub fn new(
-        rt: &'a R,
-        alloc: Global,
-        path: &'a str,
-        registry: Option<Registry>,
-    ) -> SystemFolder<'a, R> {
+    /// The folder at a path, at whose files no process listens yet.
+    pub fn new(rt: &'a R, alloc: Global, path: &'a str) -> SystemFolder<'a, R>
+        ensures { result.path.now ≡ path.now }
+    {
         SystemFolder {
             rt,
             alloc,
             path,
-            registry,
+            registry: None,
         }
     }
 
@@ -58,9 +56,17 @@ impl<'a, R: Files + Net> SystemFolder<'a, R> {
 }
 
 impl<'a, R: Files + Net> Folder<SystemConnections<'a, R>> for SystemFolder<'a, R> {
-    ghost use Rattle.std.specs.Prelude.{None};
+    ghost use Rattle.std.specs.Prelude.{None, string_bytes};
 
     ghost listenings = { λ _. None };
+
+    ghost path = { λ folder. folder.path.now };
+
+    ghost file_of = { λ connections. string_bytes connections.path };
+
+    fn report_to(&mut self, registry: Option<Registry>) {
+        self.registry = registry;
+    }
 
     fn listen(
         &mut self,

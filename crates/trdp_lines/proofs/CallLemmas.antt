@@ -12,10 +12,10 @@ use Rattle.std.proofs.lemmas.List.Folds.{list_any-append}
 use Rattle.trdp_lines.specs.declared.connections.Accepted.{Accepted}
 use Rattle.trdp_lines.specs.declared.connections.Accepted.TheVariants.{Nothing, Failed}
 use Rattle.trdp_lines.specs.Connections.{ConnectionCall, Accepts, Reads, Writes, Closes, Reading}
-use Rattle.trdp_lines.specs.Connections.{Writing, bytes_of}
+use Rattle.trdp_lines.specs.Connections.{Writing, reading_bytes}
 use Rattle.trdp_lines.specs.Lines.{has_line, lines_in}
 use Rattle.trdp_lines.specs.Said.{Said, accepted_by, connections_in, bytes_read, bytes_from}
-use Rattle.trdp_lines.specs.Said.{reads_end, has_ended, is_end, is_too_long, said_by, end_if}
+use Rattle.trdp_lines.specs.Said.{reads_end, connection_ended, is_end, is_too_long, said_by, end_if}
 use Rattle.trdp_lines.specs.Said.{application_says, applications_say, lives, said_in_turn}
 
 -- what a connection says whose bytes are these, and that has ended or not
@@ -30,17 +30,18 @@ or_false false = refl
 
 -- a connection from which the same came says the same
 pub says_alike : (calls calls_then : List ConnectionCall) (n : ℕ)
-    → bytes_from n calls_then ≡ bytes_from n calls → has_ended n calls_then ≡ has_ended n calls
+    → bytes_from n calls_then ≡ bytes_from n calls
+    → connection_ended n calls_then ≡ connection_ended n calls
     → application_says calls_then n ≡ application_says calls n
 says_alike calls calls_then n bytes ended =
-    ap (λ (b : List ℕ). says_of n b (has_ended n calls_then)) bytes
+    ap (λ (b : List ℕ). says_of n b (connection_ended n calls_then)) bytes
     ∙ ap (λ (e : Bool). says_of n (bytes_from n calls) e) ended
 
 -- a connection from which nothing came says nothing
 pub unread_says : (calls : List ConnectionCall) (n : ℕ) → bytes_from n calls ≡ []
-    → has_ended n calls ≡ false → application_says calls n ≡ []
+    → connection_ended n calls ≡ false → application_says calls n ≡ []
 unread_says calls n bytes ended =
-    ap (λ (b : List ℕ). says_of n b (has_ended n calls)) bytes
+    ap (λ (b : List ℕ). says_of n b (connection_ended n calls)) bytes
     ∙ ap (λ (e : Bool). says_of n [] e) ended
 
 -- a connection lives by its bytes, and by whether it has ended
@@ -49,21 +50,22 @@ lives_by bytes ended = has_line bytes && not (ended || is_too_long bytes)
 
 -- a connection from which the same came lives as it did
 pub lives_alike : (calls calls_then : List ConnectionCall) (n : ℕ)
-    → bytes_from n calls_then ≡ bytes_from n calls → has_ended n calls_then ≡ has_ended n calls
+    → bytes_from n calls_then ≡ bytes_from n calls
+    → connection_ended n calls_then ≡ connection_ended n calls
     → lives calls_then n ≡ lives calls n
 lives_alike calls calls_then n bytes ended =
-    ap (λ (b : List ℕ). lives_by b (has_ended n calls_then)) bytes
+    ap (λ (b : List ℕ). lives_by b (connection_ended n calls_then)) bytes
     ∙ ap (λ (e : Bool). lives_by (bytes_from n calls) e) ended
 
 -- a connection from which nothing came is no application
 pub unread_past : (calls : List ConnectionCall) (n : ℕ) → bytes_from n calls ≡ []
     → lives calls n ≡ false
-unread_past calls n bytes = ap (λ (b : List ℕ). lives_by b (has_ended n calls)) bytes
+unread_past calls n bytes = ap (λ (b : List ℕ). lives_by b (connection_ended n calls)) bytes
 
 -- from a connection the same came
 pub record IsAlike (calls calls_then : List ConnectionCall) (n : ℕ) : Type 0 where
   pub bytes : bytes_from n calls_then ≡ bytes_from n calls
-  pub ended : has_ended n calls_then ≡ has_ended n calls
+  pub ended : connection_ended n calls_then ≡ connection_ended n calls
 
 -- where the same came from each of these, all of them say the same
 pub same_in_turn : (calls calls_then : List ConnectionCall) (P : ℕ → Type 0)
@@ -82,7 +84,7 @@ same_in_turn calls calls_then P same (n ∷ ns) all =
 
 -- where nothing came from each of these, all of them say nothing
 pub nothing_in_turn : (calls : List ConnectionCall) (bound : ℕ)
-    → ((n : ℕ) → bound ≤ n → (bytes_from n calls ≡ []) × (has_ended n calls ≡ false))
+    → ((n : ℕ) → bound ≤ n → (bytes_from n calls ≡ []) × (connection_ended n calls ≡ false))
     → (ns : List ℕ) → All (λ n. bound ≤ n) ns → said_in_turn calls ns ≡ []
 nothing_in_turn calls bound unread [] all = refl
 nothing_in_turn calls bound unread (n ∷ ns) all =
@@ -120,7 +122,7 @@ silent_in_turn calls (n ∷ ns) silent none =
 -- by these calls nothing came from any connection
 pub record AreUnheard (more : List ConnectionCall) : Type 0 where
   pub bytes : (n : ℕ) → bytes_from n more ≡ []
-  pub ended : (n : ℕ) → has_ended n more ≡ false
+  pub ended : (n : ℕ) → connection_ended n more ≡ false
 
 -- no connection came by them either
 pub record AreQuiet (more : List ConnectionCall) : Type 0 where
@@ -133,7 +135,8 @@ writes_bytes n to [] = refl
 writes_bytes n to (writing ∷ writings) = writes_bytes n to writings
 
 -- by writes nothing ended
-writes_end : (n to : ℕ) (writings : List Writing) → has_ended n (map (Writes to) writings) ≡ false
+writes_end : (n to : ℕ) (writings : List Writing)
+    → connection_ended n (map (Writes to) writings) ≡ false
 writes_end n to [] = refl
 writes_end n to (writing ∷ writings) = writes_end n to writings
 
@@ -187,10 +190,10 @@ unheard_bytes calls more unheard n = flat_map-append (bytes_read n) calls more
 
 -- those that had ended have
 pub unheard_end : (calls more : List ConnectionCall) → AreUnheard more → (n : ℕ)
-    → has_ended n (calls ++ more) ≡ has_ended n calls
+    → connection_ended n (calls ++ more) ≡ connection_ended n calls
 unheard_end calls more unheard n = list_any-append (reads_end n) calls more
-    ∙ ap (λ (b : Bool). has_ended n calls || b) (unheard.ended n)
-    ∙ or_false (has_ended n calls)
+    ∙ ap (λ (b : Bool). connection_ended n calls || b) (unheard.ended n)
+    ∙ or_false (connection_ended n calls)
 
 -- from each connection the same came
 pub unheard_alike : (calls more : List ConnectionCall) → AreUnheard more → (n : ℕ)
@@ -238,22 +241,22 @@ quiet_say calls more quiet =
 
 -- a read from a connection adds its bytes, and its end
 pub read_bytes : (calls : List ConnectionCall) (n : ℕ) (reading : Reading)
-    → bytes_from n (calls ++ Reads n reading ∷ []) ≡ bytes_from n calls ++ bytes_of reading
+    → bytes_from n (calls ++ Reads n reading ∷ []) ≡ bytes_from n calls ++ reading_bytes reading
 read_bytes calls n reading =
-    let here : bytes_from n (Reads n reading ∷ []) ≡ bytes_of reading =
-    rw (eq-eqb n n refl) (append-nil (bytes_of reading)) in
+    let here : bytes_from n (Reads n reading ∷ []) ≡ reading_bytes reading =
+    rw (eq-eqb n n refl) (append-nil (reading_bytes reading)) in
     flat_map-append (bytes_read n) calls (Reads n reading ∷ [])
     ∙ ap (λ (l : List ℕ). bytes_from n calls ++ l) here
 
 -- and by its answer the connection has ended or not
 pub read_end : (calls : List ConnectionCall) (n : ℕ) (reading : Reading)
-    → has_ended n (calls ++ Reads n reading ∷ [])
-    ≡ (has_ended n calls || is_end reading.arrived)
+    → connection_ended n (calls ++ Reads n reading ∷ [])
+    ≡ (connection_ended n calls || is_end reading.arrived)
 read_end calls n reading =
-    let here : has_ended n (Reads n reading ∷ []) ≡ is_end reading.arrived =
+    let here : connection_ended n (Reads n reading ∷ []) ≡ is_end reading.arrived =
     rw (eq-eqb n n refl) (or_false (is_end reading.arrived)) in
     list_any-append (reads_end n) calls (Reads n reading ∷ [])
-    ∙ ap (λ (b : Bool). has_ended n calls || b) here
+    ∙ ap (λ (b : Bool). connection_ended n calls || b) here
 
 -- and nothing to what another said
 pub read_bytes_other : (calls : List ConnectionCall) (n m : ℕ) (reading : Reading) → n == m ≡ false
@@ -265,19 +268,11 @@ read_bytes_other calls n m reading other =
 
 -- nor did another end by it
 pub read_end_other : (calls : List ConnectionCall) (n m : ℕ) (reading : Reading) → n == m ≡ false
-    → has_ended m (calls ++ Reads n reading ∷ []) ≡ has_ended m calls
+    → connection_ended m (calls ++ Reads n reading ∷ []) ≡ connection_ended m calls
 read_end_other calls n m reading other =
-    let here : has_ended m (Reads n reading ∷ []) ≡ false = rw other refl in
+    let here : connection_ended m (Reads n reading ∷ []) ≡ false = rw other refl in
     list_any-append (reads_end m) calls (Reads n reading ∷ [])
-    ∙ ap (λ (b : Bool). has_ended m calls || b) here ∙ or_false (has_ended m calls)
-
--- so another is as it was
-pub read_alike : (calls : List ConnectionCall) (n m : ℕ) (reading : Reading) → n == m ≡ false
-    → IsAlike calls (calls ++ Reads n reading ∷ []) m
-read_alike calls n m reading other = record {
-  bytes = read_bytes_other calls n m reading other;
-  ended = read_end_other calls n m reading other;
-}
+    ∙ ap (λ (b : Bool). connection_ended m calls || b) here ∙ or_false (connection_ended m calls)
 
 -- by a read no connection came
 pub read_come : (calls : List ConnectionCall) (n : ℕ) (reading : Reading)

@@ -10,7 +10,8 @@ use Rattle.trdp_lines.specs.declared.connections.Accepted.TheVariants.{Came}
 use Rattle.trdp_lines.specs.Closings.{AreOpen, AreOpenIfTold, AreThere, FindsNothing, HasLeft}
 use Rattle.trdp_lines.specs.Closings.{IsThere, IsUnheard, closes, is_one_of, was_closed}
 use Rattle.trdp_lines.specs.Connections.{ConnectionCall, Accepts, Closes, NoBytes, Reading, Reads}
-use Rattle.trdp_lines.specs.Connections.{TellsMore, Writes, Writing}
+use Rattle.trdp_base.specs.Reported.{TellsMore}
+use Rattle.trdp_lines.specs.Connections.{Writes, Writing}
 use Rattle.trdp_lines.specs.Said.{connections_in}
 use Rattle.trdp_lines.proofs.CallLemmas.{come_by}
 

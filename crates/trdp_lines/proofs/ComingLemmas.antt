@@ -1,22 +1,28 @@
--- Which connections came over several calls, and which of them got a seat.
--- For the path of the operator's port.
--- By: cases on which calls are reported; the connections that came by each of them.
-use Rattle.std.proofs.Common.{◌≡◌, ℕ, ◌+◌, ◌<◌, ◌≤◌, ◌||◌, ◌++◌, List, [], ◌∷◌, false}
-use Rattle.std.proofs.Common.{Option, Some, None, IfSome, length, set, get_or, refl, ap, sym, subst}
-use Rattle.std.proofs.Common.{◌∙◌, inl, inr}
-use Rattle.std.proofs.lemmas.Bool.{or_from, true_from_ne_false}
+-- Which connections come at a path, and that each of them is served.
+-- For `Path::take`.
+-- By: the next one gets a place, or is refused; what is served stays so while all goes on.
+use Rattle.std.proofs.Common.{◌≡◌, ℕ, ◌+◌, ◌++◌, ◌⊎◌, List, [], ◌∷◌}
+use Rattle.std.proofs.Common.{Option, Some, None, refl, ap, sym, subst, ◌∙◌}
+use Rattle.std.proofs.Common.{inl, inr, arith}
 use Rattle.std.proofs.lemmas.List.{append-nil}
-use Rattle.trdp_lines.specs.Connections.{ConnectionCall, TellsMore}
-use Rattle.trdp_lines.specs.Conversations.{ConversationState}
-use Rattle.trdp_lines.specs.Comings.{ComesNext, HaveCome}
-use Rattle.trdp_lines.specs.OperatorPaths.{HaveLeft, has_seat, is_of}
+use Rattle.trdp_lines.specs.declared.rule.Rule.{Rule}
+use Rattle.trdp_lines.specs.declared.rule.Rule.TheVariants.{Application, Operators}
+use Rattle.trdp_lines.specs.Comings.{AcceptsAtMostOne, HaveCome}
+use Rattle.trdp_base.specs.Reported.{TellsMore}
+use Rattle.trdp_lines.specs.Connections.{Between, ConnectionCall, IfTold}
+use Rattle.trdp_lines.specs.Conversations.{ConversationState, conversation_of}
+use Rattle.trdp_lines.specs.Fates.{AreTaken, GoesOn, IsServed, Serves, WasTurnedAway}
 use Rattle.trdp_lines.specs.Paths.{speaks}
-use Rattle.trdp_lines.specs.Said.{connections_in}
-use Rattle.trdp_lines.specs.Seats.{AreSeated, GoesOnIfTold, KeepSeats}
-use Rattle.trdp_lines.proofs.CallLemmas.{AreQuiet, come_by}
-use Rattle.trdp_lines.proofs.GoingOnLemmas.{never_both, none_among, seat_among}
-use Rattle.trdp_lines.proofs.SeatLemmas.{changes_at}
-use Rattle.trdp_lines.proofs.SeatedLemmas.{alone}
+use Rattle.trdp_lines.specs.Said.{Said, connections_in}
+use Rattle.trdp_lines.specs.Seats.{PathState, places_of}
+use Rattle.trdp_lines.specs.Steps.{AreServed, Goes}
+use Rattle.trdp_lines.specs.Turns.{IsRefused}
+use Rattle.trdp_lines.proofs.BetweenLemmas.{known_between}
+use Rattle.trdp_lines.proofs.CallLemmas.{come_by}
+use Rattle.trdp_lines.proofs.FateLemmas.{has_here}
+use Rattle.trdp_lines.proofs.GoingOnLemmas.{refused_then, served_then}
+use Rattle.trdp_lines.proofs.HadLemmas.{had_seat}
+use Rattle.trdp_lines.proofs.SeatLemmas.{Changes}
 
 -- the connections that came by calls that are reported
 pub have_come : (calls calls_then : Option (List ConnectionCall)) (more : List ConnectionCall)
@@ -27,115 +33,137 @@ have_come (Some calls) None more told = tt
 have_come (Some calls) (Some calls_then) more told =
     ap connections_in told ∙ come_by calls more
 
--- none came by quiet calls
-pub none_quiet : (calls calls_then : Option (List ConnectionCall)) (more : List ConnectionCall)
-    → AreQuiet more → TellsMore calls calls_then more → HaveCome calls calls_then []
-none_quiet calls calls_then more quiet told =
-    subst (HaveCome calls calls_then) quiet.none_came (have_come calls calls_then more told)
-
 -- those that came before calls by which none did
-pub have_come_next : (one two three : Option (List ConnectionCall)) (numbers : List ℕ)
+have_come_next : (one two three : Option (List ConnectionCall)) (numbers : List ℕ)
     → HaveCome one two numbers → HaveCome two three [] → HaveCome one three numbers
-have_come_next None None None numbers first second = tt
-have_come_next None None (Some three) numbers first second = absurd second
-have_come_next None (Some two) three numbers first second = absurd first
-have_come_next (Some one) None None numbers first second = tt
-have_come_next (Some one) None (Some three) numbers first second = absurd second
-have_come_next (Some one) (Some two) None numbers first second = tt
+have_come_next one two None numbers first second = tt
+have_come_next one None (Some three) numbers first second = absurd second
+have_come_next None (Some two) (Some three) numbers first second = absurd first
 have_come_next (Some one) (Some two) (Some three) numbers first second =
     second ∙ append-nil (connections_in two) ∙ first
 
--- those that came after calls by which none did
-pub have_come_then : (one two three : Option (List ConnectionCall)) (numbers : List ℕ)
-    → HaveCome one two [] → HaveCome two three numbers → HaveCome one three numbers
-have_come_then None None None numbers first second = tt
-have_come_then None None (Some three) numbers first second = absurd second
-have_come_then None (Some two) three numbers first second = absurd first
-have_come_then (Some one) None None numbers first second = tt
-have_come_then (Some one) None (Some three) numbers first second = absurd second
-have_come_then (Some one) (Some two) None numbers first second = tt
-have_come_then (Some one) (Some two) (Some three) numbers first second =
-    second ∙ ap (λ (came : List ℕ). came ++ numbers) (first ∙ append-nil (connections_in one))
-
--- the connections that came, and before and after that none
-pub comes_between : (one two three four : Option (List ConnectionCall))
-    (came came_two came_three came_four : ℕ) → HaveCome one two [] → came_two ≡ came
-    → ComesNext two three came_two came_three → HaveCome three four [] → came_four ≡ came_three
-    → ComesNext one four came came_four
-comes_between one two three four came came_two came_three came_four before same comes behind
-    same_then =
-    elim comes [
-      | inl h ↦ inl (
-        have_come_next one three four [] (have_come_then one two three [] before h.0) behind,
-        same_then ∙ h.1 ∙ same,
-      )
-      | inr h ↦ inr (
-        have_come_next one three four ((came + 1) ∷ []) (have_come_then one two three
-            ((came + 1) ∷ []) before (rw (← same) h.0)) behind,
-        same_then ∙ h.1 ∙ ap (λ (n : ℕ). n + 1) same,
-        rw same_then h.2,
-      )
-    ]
-
--- none comes where all goes on
-none_come : (calls calls_then : Option (List ConnectionCall))
-    (seats seats_then : List ConversationState)
-    → GoesOnIfTold calls calls_then seats seats_then → HaveCome calls calls_then []
-none_come None None seats seats_then goes = tt
-none_come None (Some calls_then) seats seats_then goes = absurd goes
-none_come (Some calls) None seats seats_then goes = tt
-none_come (Some calls) (Some calls_then) seats seats_then goes =
+-- none comes by a step
+none_come : (rule : Rule) (calls calls_then : Option (List ConnectionCall))
+    (places places_then : List ConversationState)
+    → Between (λ old new. GoesOn rule old new places places_then) calls calls_then
+    → HaveCome calls calls_then []
+none_come rule None None places places_then goes = tt
+none_come rule None (Some calls_then) places places_then goes = absurd goes
+none_come rule (Some calls) None places places_then goes = tt
+none_come rule (Some calls) (Some calls_then) places places_then goes =
     goes.come ∙ sym (append-nil (connections_in calls))
 
 -- none came where nothing was asked
 pub none_comes_next : (calls : Option (List ConnectionCall)) (came : ℕ)
-    → ComesNext calls calls came came
+    → AcceptsAtMostOne calls calls came came
 none_comes_next None came = inl (tt, refl)
 none_comes_next (Some calls) came = inl (sym (append-nil (connections_in calls)), refl)
 
--- the connections that came, and after that all goes on
-pub comes_then : (one two three : Option (List ConnectionCall)) (came came_then last : ℕ)
-    (seats seats_then : List ConversationState) → ComesNext one two came came_then
-    → GoesOnIfTold two three seats seats_then → last ≡ came_then → ComesNext one three came last
-comes_then one two three came came_then last seats seats_then comes goes same =
-    let none = none_come two three seats seats_then goes in
+-- the connections that came, and after that a step
+pub comes_then : {C : Type 0} (rule : Rule) (calls_of : C → Option (List ConnectionCall))
+    (one : Option (List ConnectionCall)) (came : ℕ) (b c : PathState C) (texts : List Said)
+    → AcceptsAtMostOne one (calls_of b.connections) came b.came → Goes rule calls_of b c texts
+    → AcceptsAtMostOne one (calls_of c.connections) came c.came
+comes_then rule calls_of one came b c texts comes goes =
+    let two = calls_of b.connections in
+    let three = calls_of c.connections in
+    let none = none_come rule two three (places_of b) (places_of c) goes.fates in
     elim comes [
-      | inl h ↦ inl (have_come_next one two three [] h.0 none, same ∙ h.1)
+      | inl h ↦ inl (have_come_next one two three [] h.0 none, goes.came ∙ h.1)
       | inr h ↦ inr (
         have_come_next one two three ((came + 1) ∷ []) h.0 none,
-        same ∙ h.1,
-        rw same h.2,
+        goes.came ∙ h.1,
+        rw goes.came h.2,
       )
     ]
 
--- one that had a seat, and has none after calls by which all goes on, has left
-pub left_then : (calls calls_then : Option (List ConnectionCall))
-    (seats mid seats_then : List ConversationState) → KeepSeats seats mid
-    → GoesOnIfTold calls calls_then mid seats_then → HaveLeft calls_then seats seats_then
-left_then calls None seats mid seats_then keep goes = tt
-left_then None (Some calls_then) seats mid seats_then keep goes = absurd goes
-left_then (Some calls) (Some calls_then) seats mid seats_then keep goes = λ n some none.
-    goes.left n (keep n some) none
+-- one that was turned away stays so
+away_then : (rule : Rule) (seats : List ConversationState) (n : ℕ)
+    (calls calls_then more : List ConnectionCall) → calls_then ≡ calls ++ more
+    → WasTurnedAway rule seats n calls → WasTurnedAway rule seats n calls_then
+away_then Application seats n calls calls_then more told away = absurd away
+away_then Operators seats n calls calls_then more told away =
+    (away.0, refused_then n calls calls_then more told away.1)
 
--- all keep their seats where a free one changes
-pub keep_seats : (seats : List ConversationState) (place : ℕ) (c c_then : ConversationState)
-    → place < length seats → c ≡ get_or seats place c → c.number ≡ None
-    → KeepSeats seats (set seats place c_then)
-keep_seats seats place c c_then within here free = λ n some.
-    let changes = changes_at seats place c c_then within here in
-    true_from_ne_false (has_seat n (set seats place c_then)) (λ none.
-    let around = none_among n (set seats place c_then) changes.front changes.back c_then
-    changes.is none in
-    let no : is_of n c ≡ false = ap (λ (whose : Option ℕ). speaks whose n) free in
-    never_both (has_seat n seats) some (seat_among n seats changes.front changes.back c
-    changes.was ∙ or_from (has_seat n changes.front) (is_of n c || has_seat n changes.back)
-    around.0 (or_from (is_of n c) (has_seat n changes.back) no around.2)))
+-- each that is served is served after calls by which all goes on
+serves_then : (rule : Rule) (calls calls_then : List ConnectionCall)
+    (seats a b c : List ConversationState) (came came_then last : ℕ) → last ≡ came_then
+    → GoesOn rule calls calls_then b c → Serves rule calls seats a b came came_then
+    → Serves rule calls_then seats a c came last
+serves_then rule calls calls_then seats a b c came came_then last same goes served = record {
+  placed = λ n some. served_then rule n calls calls_then b c goes (served.placed n some);
+  next = λ n more low. elim (served.next n more (rw (← same) low)) [
+    | inl here ↦ inl (served_then rule n calls calls_then b c goes here)
+    | inr away ↦ inr (away_then rule seats n calls calls_then goes.more goes.told away)
+  ];
+}
 
--- a connection that has a seat came
-pub number_low : (seats : List ConversationState) (place : ℕ) (c : ConversationState)
-    (whose : Option ℕ) (came : ℕ) → place < length seats → c ≡ get_or seats place c
-    → c.number ≡ whose → AreSeated seats came → IfSome whose (λ n. n ≤ came)
-number_low seats place c None came within here number seated = tt
-number_low seats place c (Some n) came within here number seated =
-    let changes = changes_at seats place c c within here in
-    (alone seats changes.front changes.back c n came changes.was number seated).within
+-- the same after a step of a path
+pub served_step : {C : Type 0} (rule : Rule) (calls_of : C → Option (List ConnectionCall))
+    (a b c : PathState C) (texts : List Said) → AreServed rule calls_of a b
+    → Goes rule calls_of b c texts → AreServed rule calls_of a c
+served_step rule calls_of a b c texts served goes =
+    known_between (λ told. Serves rule told a.seats (places_of a) (places_of b) a.came b.came)
+    (λ told. Serves rule told a.seats (places_of a) (places_of c) a.came c.came)
+    (λ old new. GoesOn rule old new (places_of b) (places_of c)) (calls_of b.connections)
+    (calls_of c.connections) goes.fates served (λ old new going was.
+    serves_then rule old new a.seats (places_of a) (places_of b) (places_of c) a.came b.came c.came
+    goes.came going was)
+
+-- where none came, and all keep their places
+pub serves_same : (rule : Rule) (calls : Option (List ConnectionCall))
+    (seats places : List ConversationState) (came : ℕ)
+    → IfTold (λ told. Serves rule told seats places places came came) calls
+serves_same rule None seats places came = tt
+serves_same rule (Some calls) seats places came = record {
+  placed = λ n some. inl some;
+  next = λ n more low. absurd (omega (arith, more, low));
+}
+
+-- where the next one got a free place
+pub serves_next : (rule : Rule) (calls : Option (List ConnectionCall))
+    (seats places places_then : List ConversationState) (c : ConversationState) (came : ℕ)
+    → Changes places places_then c (conversation_of (Some (came + 1))) → c.number ≡ None
+    → IfTold (λ told. Serves rule told seats places places_then came (came + 1)) calls
+serves_next rule None seats places places_then c came changes free = tt
+serves_next rule (Some calls) seats places places_then c came changes free =
+    let back : Changes places_then places (conversation_of (Some (came + 1))) c = record {
+      front = changes.front;
+      back = changes.back;
+      was = changes.is;
+      is = changes.was;
+    } in
+    record {
+      placed = λ n some. inl (had_seat n places_then places
+          (conversation_of (Some (came + 1))) c back
+          (ap (λ (whose : Option ℕ). speaks whose n) free) some);
+      next = λ n more low.
+          let same : came + 1 ≡ n = omega (arith, more, low) in
+          inl (inl (has_here n places_then places (conversation_of (Some (came + 1))) c back
+          (ap Some same)));
+    }
+
+-- where the next one was refused
+pub serves_away : (rule : Rule) (calls calls_then : Option (List ConnectionCall))
+    (seats places : List ConversationState) (came : ℕ) → rule ≡ Operators → AreTaken seats
+    → IsRefused (came + 1) calls calls_then
+    → IfTold (λ told. Serves rule told seats places places came (came + 1)) calls_then
+serves_away rule calls None seats places came is taken refused = tt
+serves_away rule None (Some calls_then) seats places came is taken refused = absurd refused.told
+serves_away Application (Some calls) (Some calls_then) seats places came is taken refused = cc
+serves_away Operators (Some calls) (Some calls_then) seats places came is taken refused = record {
+  placed = λ n some. inl some;
+  next = λ n more low.
+      let same : came + 1 ≡ n = omega (arith, more, low) in
+      subst (λ (m : ℕ). IsServed Operators m calls_then places
+      ⊎ WasTurnedAway Operators seats m calls_then) same (inr (
+        taken,
+        record {
+          before = calls;
+          behind = [];
+          writing = refused.writing;
+          busy = refused.busy;
+          told = refused.told;
+        },
+      ));
+}

@@ -9,16 +9,16 @@ use Rattle.std.proofs.lemmas.List.{append-nil, map-append}
 use Rattle.trdp_lines.specs.Connections.{ConnectionCall}
 use Rattle.trdp_lines.specs.Conversations.{ConversationState, HasWritten, is_done, left_by}
 use Rattle.trdp_lines.specs.Intakes.{intake_room}
-use Rattle.trdp_lines.specs.Lines.{line_end, line_limit, has_line, lines_in, rest_of, first_line}
+use Rattle.trdp_base.specs.Limits.{line_limit}
+use Rattle.trdp_lines.specs.Lines.{line_end, has_line, lines_in, rest_of, first_line}
 use Rattle.trdp_lines.specs.Lines.{behind_line}
 use Rattle.trdp_lines.specs.Outgoings.{OutgoingState}
-use Rattle.trdp_lines.specs.OutgoingRuns.{OutgoingStep, after_step, taken, taken_in}
+use Rattle.trdp_lines.specs.OutgoingRuns.{OutgoingStep, after_step, all_taken, taken_in_step}
 use Rattle.trdp_lines.specs.OutgoingRuns.{texts_in}
-use Rattle.trdp_lines.specs.Paths.{IsReady, IsHeard}
-use Rattle.trdp_lines.specs.Said.{lives, has_ended, Said, end_if, is_too_long, said_by}
+use Rattle.trdp_lines.specs.Paths.{IsReady, IsWhatWasRead}
+use Rattle.trdp_lines.specs.Said.{lives, connection_ended, Said, end_if, is_too_long, said_by}
 use Rattle.trdp_lines.proofs.CallLemmas.{says_of, lives_by, or_false}
 use Rattle.trdp_lines.proofs.LineLemmas.{rest_unended, none_comes, lines_stay, first_split}
-use Rattle.trdp_lines.proofs.LineLemmas.{first_comes}
 
 -- of three tests it is all one which are joined first
 or_assoc : (x y z : Bool) → (x || (y || z)) ≡ ((x || y) || z)
@@ -72,14 +72,6 @@ pub whole_split : (bytes : List ℕ) → has_line bytes ≡ true
 whole_split bytes has = first_split bytes has
     ∙ sym (append_assoc (first_line bytes) (line_end ∷ []) (behind_line bytes))
 
--- bytes with a line have the rest of those after it
-pub rest_behind_line : (bytes : List ℕ) → has_line bytes ≡ true
-    → rest_of bytes ≡ rest_of (behind_line bytes)
-rest_behind_line bytes has =
-    let first = first_line bytes in
-    ap rest_of (whole_split bytes has)
-    ∙ rest_behind (whole_line first) (behind_line bytes) (whole_rest first)
-
 -- one line of a connection
 abbrev saying : ℕ → List ℕ → Said
 saying n line = (n, line)
@@ -127,36 +119,21 @@ nothing_left n c none going =
     (none_comes c.bytes none)
     ∙ ap (λ (b : Bool). end_if n b (c.spoke || has_line c.bytes)) going
 
--- no line is left, and the connection is over: its end is left if it has spoken
-pub end_left : (n : ℕ) (c : ConversationState) → has_line c.bytes ≡ false
-    → is_done c ≡ true → left_by (Some n) c ≡ end_if n true c.spoke
-end_left n c none done =
+-- no line is left: its end is left if it is over and has spoken
+pub ended_left : (n : ℕ) (c : ConversationState) → has_line c.bytes ≡ false
+    → left_by (Some n) c ≡ end_if n (is_done c) c.spoke
+ended_left n c none =
     ap (λ (l : List (List ℕ)). said_by n l ++ end_if n (is_done c) (c.spoke || has_line c.bytes))
     (none_comes c.bytes none)
-    ∙ ap (λ (b : Bool). end_if n b (c.spoke || has_line c.bytes)) done
-    ∙ ap (λ (b : Bool). end_if n true (c.spoke || b)) none
-    ∙ ap (λ (b : Bool). end_if n true b) (or_false c.spoke)
-
--- a line is left: it comes next, and after it what is left without it
-pub line_left : (n : ℕ) (c : ConversationState) → has_line c.bytes ≡ true
-    → left_by (Some n) c ≡ (n, first_line c.bytes)
-    ∷ left_by (Some n) (record c { bytes = behind_line c.bytes; spoke = true })
-line_left n c has =
-    ap (λ (l : List (List ℕ)). said_by n l ++ end_if n (is_done c) (c.spoke || has_line c.bytes))
-    (first_comes c.bytes has)
-    ∙ ap (λ (r : List ℕ). said_by n (first_line c.bytes ∷ lines_in (behind_line c.bytes))
-    ++ end_if n (c.ended || nat_le line_limit (length r)) (c.spoke || has_line c.bytes))
-    (rest_behind_line c.bytes has)
-    ∙ ap (λ (b : Bool). said_by n (first_line c.bytes ∷ lines_in (behind_line c.bytes))
-    ++ end_if n (c.ended || is_too_long (behind_line c.bytes)) b)
-    (or_right c.spoke (has_line c.bytes) has)
+    ∙ ap (λ (b : Bool). end_if n (is_done c) (c.spoke || b)) none
+    ∙ ap (λ (b : Bool). end_if n (is_done c) b) (or_false c.spoke)
 
 -- whether a connection lives is known from what is left of it
 pub lives_heard : (calls : List ConnectionCall) (n : ℕ) (c : ConversationState)
-    → IsHeard calls n c
+    → IsWhatWasRead calls n c
     → lives calls n ≡ ((c.spoke || has_line c.bytes) && not (is_done c))
 lives_heard calls n c heard =
-    ap (λ (b : List ℕ). lives_by b (has_ended n calls)) heard.bytes
+    ap (λ (b : List ℕ). lives_by b (connection_ended n calls)) heard.bytes
     ∙ ap (λ (e : Bool). lives_by (heard.before ++ c.bytes) e) heard.ended
     ∙ ap (λ (b : Bool). b && not (c.ended || is_too_long (heard.before ++ c.bytes)))
     (line_in_parts heard.before c.bytes)
@@ -179,7 +156,7 @@ silent_past c silent none = and_left (c.spoke || has_line c.bytes) (not (is_done
 -- a step by which the other side takes nothing comes before what is written
 pub more_written : (n : ℕ) (step : OutgoingStep) (old : ConversationState) (out : OutgoingState)
     (new : ConversationState) (calls calls_then : Option (List ConnectionCall))
-    → out ≡ after_step old.outgoing step → taken_in old.outgoing step ≡ []
+    → out ≡ after_step old.outgoing step → taken_in_step old.outgoing step ≡ []
     → ((after_step old.outgoing step).waiting ≡ [] → old.outgoing.waiting ≡ [])
     → HasWritten n [] (record old { outgoing = out }) new calls calls_then
     → HasWritten n (texts_in step) old new calls calls_then
@@ -193,7 +170,8 @@ more_written n step old out new calls calls_then is none grows written =
           ∙ append-nil (texts_in step);
       told = later.told;
       took = later.took
-          ∙ ap (λ (l : List ℕ). l ++ taken (after_step old.outgoing step) later.steps) (sym none);
+          ∙ ap (λ (l : List ℕ). l ++ all_taken (after_step old.outgoing step) later.steps)
+          (sym none);
       written = later.written;
       tried = λ unwritten. (grows (later.tried unwritten).0, (later.tried unwritten).1);
     }

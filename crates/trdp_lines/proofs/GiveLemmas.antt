@@ -1,32 +1,37 @@
 -- A text that is said to the connection of a number.
--- For the path of the operator's port.
+-- For `Path::give` and `Path::speaks`.
 -- By: whether one of the seats is that of the connection.
-use Rattle.std.proofs.Common.{◌≡◌, ℕ, ◌<◌, List, [], ◌∷◌, true, false, Option, Some}
+use Rattle.std.proofs.Common.{◌≡◌, ℕ, ◌<◌, List, [], ◌∷◌, true, false, Option, Some, None}
 use Rattle.std.proofs.Common.{Result, Ok, length, set, get_or, refl, ap, sym, subst, ◌∙◌, is_ok}
+use Rattle.std.specs.Prelude.{MatchOption, is_some}
 use Rattle.std.proofs.lemmas.Bool.{eq-eqb, false_from_ne_true}
 use Rattle.std.proofs.lemmas.List.Elements.{All-from_get_or}
 use Rattle.std.proofs.lemmas.List.Folds.{list_any_at, list_any_none}
 use Rattle.trdp_lines.specs.declared.path_fault.LostText.{LostText}
 use Rattle.trdp_lines.specs.Connections.{ConnectionCall}
-use Rattle.trdp_lines.specs.Conversations.{ConversationState, HasWritten}
-use Rattle.trdp_lines.specs.OperatorPaths.{SaysToSeat, free_seat, has_seat, is_of, left_at_seat}
-use Rattle.trdp_lines.specs.OperatorPaths.{left_in, seat_at}
-use Rattle.trdp_lines.specs.Outgoings.{lost_told, takes_text}
+use Rattle.trdp_lines.specs.declared.rule.Rule.{Rule}
+use Rattle.trdp_lines.specs.declared.rule.Rule.TheVariants.{Application, Operators}
+use Rattle.trdp_lines.specs.Conversations.{ConversationState, HasWritten, left_by, left_to_hand_in}
+use Rattle.trdp_lines.specs.Outgoings.{OutgoingState, lost_told, takes_text}
+use Rattle.trdp_lines.specs.OutgoingRuns.{after_steps}
 use Rattle.trdp_lines.specs.Paths.{speaks}
-use Rattle.trdp_lines.specs.Seats.{HasNoPlace}
-use Rattle.trdp_lines.proofs.HandingLemmas.{tells_nothing}
-use Rattle.trdp_lines.proofs.OperatorLemmas.{seat_read}
+use Rattle.trdp_lines.specs.Seats.{StaysLeft, free_seat, has_seat, is_of, left_at_seat, seat_at}
+use Rattle.trdp_lines.specs.Seats.{seats_at}
+use Rattle.trdp_lines.specs.Steps.{SaysToSeat}
+use Rattle.trdp_lines.specs.Turns.{HasNoPlace, IsPlaceOf}
+use Rattle.trdp_lines.proofs.BetweenLemmas.{tells_nothing}
+use Rattle.trdp_lines.proofs.ReadLemmas.{first_seat, first_set, seat_read}
 use Rattle.trdp_lines.proofs.SeatLemmas.{changes_at, left_same, number_of_same}
 
 -- a connection that is at a place has a seat
-seat_there : (seats : List ConversationState) (place n : ℕ) → place < length seats
+pub seat_there : (seats : List ConversationState) (place n : ℕ) → place < length seats
     → (seat_at seats place).number ≡ Some n → has_seat n seats ≡ true
 seat_there seats place n within number =
     list_any_at (is_of n) seats place free_seat within
     (ap (λ (whose : Option ℕ). speaks whose n) number ∙ eq-eqb n n refl)
 
 -- a connection that is at no place has none
-no_seat : (seats : List ConversationState) (n : ℕ) → HasNoPlace (Some n) seats
+pub no_seat : (seats : List ConversationState) (n : ℕ) → HasNoPlace (Some n) seats
     → has_seat n seats ≡ false
 no_seat seats n nowhere =
     list_any_none (is_of n) seats (All-from_get_or (λ (c : ConversationState). is_of n c ≡ false)
@@ -61,12 +66,30 @@ says_there calls calls_then seats place n text c c_then result within here numbe
           is_ok result ≡ takes_text (lost_told seat.outgoing) text) same answer;
     })
 
+-- what waits to go out is no part of what is left
+out_left : (number : Option ℕ) (c : ConversationState) (out : OutgoingState)
+    → left_by number (record c { outgoing = out }) ≡ left_by number c
+out_left None c out = refl
+out_left (Some n) c out = refl
+
 -- what is left to hand in stays
-pub left_written : (calls calls_then : Option (List ConnectionCall))
+pub left_written : (rule : Rule) (calls calls_then : Option (List ConnectionCall))
     (seats : List ConversationState) (place n : ℕ) (texts : List (List ℕ))
-    (c c_then : ConversationState) → place < length seats → c ≡ get_or seats place c
-    → HasWritten n texts c c_then calls calls_then → (k : ℕ)
-    → left_in k (set seats place c_then) ≡ left_in k seats
-left_written calls calls_then seats place n texts c c_then within here written k =
+    (c c_then : ConversationState) → place < seats_at rule → place < length seats
+    → c ≡ get_or seats place c → HasWritten n texts c c_then calls calls_then
+    → StaysLeft rule seats (set seats place c_then)
+left_written Application calls calls_then seats place n texts c c_then low within here written = λ k.
+    ap left_to_hand_in (first_set seats place c_then low within)
+    ∙ ap left_to_hand_in written.written
+    ∙ out_left c.number c (after_steps c.outgoing written.steps)
+    ∙ ap left_to_hand_in (sym (first_seat seats place c low within here))
+left_written Operators calls calls_then seats place n texts c c_then low within here written = λ k.
     left_same k seats (set seats place c_then) c c_then
     (changes_at seats place c c_then within here) (ap (left_at_seat k) written.written)
+
+-- a connection has a seat if its place is found
+pub speaks_is : (seats : List ConversationState) (n : ℕ) (found : Option ℕ)
+    → MatchOption found (HasNoPlace (Some n) seats) (IsPlaceOf (Some n) seats)
+    → is_some found ≡ has_seat n seats
+speaks_is seats n None nowhere = sym (no_seat seats n nowhere)
+speaks_is seats n (Some place) there = sym (seat_there seats place n there.within there.number)

@@ -1,42 +1,83 @@
--- The connections that have a seat, and those that have one no longer, over several calls.
--- For the path of the operator's port.
--- By: whether a connection has a seat between them; one without a seat isn't read from.
-use Rattle.std.proofs.Common.{◌≡◌, ℕ, ◌||◌, ◌++◌, ◌≢◌, List, ◌∷◌, Bool, true, false, Option}
-use Rattle.std.proofs.Common.{Some, None, length, nat_le, refl, ap, sym, ◌∙◌}
-use Rattle.std.proofs.lemmas.Bool.{eq-eqb, or_parts, or_from, true_from_ne_false, true≢false}
-use Rattle.std.proofs.Common.{append_assoc, [], subst, arith, ◌+◌, if◌then◌else◌}
+-- The connections that have a place, and those that have one no longer, over several calls.
+-- For `Path`.
+-- By: whether a connection has a place between them; one without a place isn't read from.
+use Rattle.std.proofs.Common.{◌≡◌, ℕ, ◌++◌, ◌≢◌, List, [], ◌∷◌, Bool, true, false}
+use Rattle.std.proofs.Common.{Some, refl, ap, sym, subst, ◌∙◌, append_assoc, inl, inr}
+use Rattle.std.proofs.lemmas.Bool.{eq-eqb, or_from}
 use Rattle.std.proofs.lemmas.List.{append-nil}
-use Rattle.std.proofs.lemmas.List.Folds.{list_any-append}
-use Rattle.trdp_lines.specs.Closings.{HasLeft, IsUnheard}
-use Rattle.trdp_lines.specs.Connections.{ConnectionCall, Closes, TellsMore}
-use Rattle.trdp_lines.specs.Conversations.{ConversationState, is_done}
-use Rattle.trdp_lines.specs.OperatorPaths.{free_seat, has_seat, is_of}
-use Rattle.trdp_lines.specs.Paths.{IsHeard, speaks}
-use Rattle.trdp_lines.specs.Lines.{line_limit}
-use Rattle.trdp_lines.specs.Said.{bytes_from, has_ended, is_over, is_too_long}
-use Rattle.trdp_lines.specs.Seats.{AreSeated, AreTrueOf, AreTrueIfTold, GoesOn, GoesOnIfTold}
-use Rattle.trdp_lines.specs.Seats.{HasTurn, HasTurnIfTold, seats_of}
-use Rattle.trdp_lines.proofs.CallLemmas.{close_quiet, quiet_come}
+use Rattle.trdp_lines.specs.declared.rule.Rule.{Rule}
+use Rattle.trdp_lines.specs.declared.rule.Rule.TheVariants.{Application, Operators}
+use Rattle.trdp_lines.specs.Closings.{IsUnheard}
+use Rattle.trdp_lines.specs.Connections.{ConnectionCall, Closes, Writes}
+use Rattle.trdp_lines.specs.Comings.{WasRefused}
+use Rattle.trdp_lines.specs.Conversations.{ConversationState}
+use Rattle.trdp_lines.specs.Fates.{GoesOn, HasGone, IsServed}
+use Rattle.trdp_lines.specs.Paths.{speaks}
+use Rattle.trdp_lines.specs.Seats.{free_seat, has_seat, is_of}
+use Rattle.trdp_lines.specs.Turns.{HasTurn}
+use Rattle.trdp_lines.proofs.CallLemmas.{AreQuiet, quiet_come}
 use Rattle.trdp_lines.proofs.ClosingLemmas.{left_kept}
-use Rattle.trdp_lines.proofs.ConversationLemmas.{rest_behind}
-use Rattle.trdp_lines.proofs.LeftLemmas.{heard_here}
-use Rattle.trdp_lines.proofs.SeatedLemmas.{alone}
+use Rattle.trdp_lines.proofs.HadLemmas.{left_true, never_both, none_among, same_seats, seat_among}
+use Rattle.trdp_lines.proofs.PlacesLemmas.{Moves}
 use Rattle.trdp_lines.proofs.SeatLemmas.{Changes, number_of_same}
 use Rattle.trdp_lines.proofs.TurnLemmas.{unheard_by}
 
--- no test is both true and false
-pub never_both : {P : Type 0} (b : Bool) → b ≡ true → b ≡ false → P
-never_both b some none = absurd (true≢false (sym some ∙ none))
+-- one that was refused stays so
+pub refused_then : (n : ℕ) (calls calls_then more : List ConnectionCall)
+    → calls_then ≡ calls ++ more → WasRefused n calls → WasRefused n calls_then
+refused_then n calls calls_then more told was = record {
+  before = was.before;
+  behind = was.behind ++ more;
+  writing = was.writing;
+  busy = was.busy;
+  told = told ∙ ap (λ (calls : List ConnectionCall). calls ++ more) was.told
+      ∙ append_assoc was.before (Writes n was.writing ∷ Closes n ∷ was.behind) more;
+}
 
--- of two tests of which the second is false the first is true
-pub left_true : (b : Bool) → (b || false) ≡ true → b ≡ true
-left_true true same = refl
-left_true false same = same
+-- what became of one that is closed stays true, where it isn't read from
+pub gone_kept : (rule : Rule) (n : ℕ) (calls calls_then more : List ConnectionCall)
+    → calls_then ≡ calls ++ more → IsUnheard calls calls_then n → HasGone rule n calls
+    → HasGone rule n calls_then
+gone_kept Operators n calls calls_then more told unheard gone =
+    left_kept n calls calls_then more told unheard gone
+gone_kept Application n calls calls_then more told unheard gone = elim gone [
+  | inl left ↦ inl (left_kept n calls calls_then more told unheard left)
+  | inr rest ↦ elim rest [
+    | inl way ↦ inr (inl (record {
+      before = way.before;
+      behind = way.behind ++ more;
+      silent = way.silent;
+      asked = way.asked;
+      successor = way.successor;
+      later = way.later;
+      there = way.there;
+      told = told ∙ ap (λ (calls : List ConnectionCall). calls ++ more) way.told
+          ∙ append_assoc way.before (Closes n ∷ way.behind) more;
+      unread = record {
+        bytes = unheard.bytes ∙ way.unread.bytes;
+        ended = unheard.ended ∙ way.unread.ended;
+      };
+    }))
+    | inr busy ↦
+        let was = busy.refused in
+        inr (inr (record {
+          refused = record {
+            before = was.before;
+            behind = was.behind ++ more;
+            writing = was.writing;
+            busy = was.busy;
+            told = told ∙ ap (λ (calls : List ConnectionCall). calls ++ more) was.told
+                ∙ append_assoc was.before (Writes n was.writing ∷ Closes n ∷ was.behind) more;
+          };
+          beside = busy.beside;
+        }))
+  ]
+]
 
--- where nothing was asked all goes on, by calls that are reported
-going_none : (calls : List ConnectionCall) (seats : List ConversationState)
-    → GoesOn calls calls seats seats
-going_none calls seats = record {
+-- where nothing was asked all goes on
+pub going_none : (rule : Rule) (calls : List ConnectionCall) (places : List ConversationState)
+    → GoesOn rule calls calls places places
+going_none rule calls places = record {
   more = [];
   told = sym (append-nil calls);
   come = refl;
@@ -44,28 +85,24 @@ going_none calls seats = record {
     unheard = record { bytes = refl; ended = refl };
     unseated = none;
   };
-  left = λ n some none. never_both (has_seat n seats) some none;
+  gone = λ n some none. never_both (has_seat n places) some none;
 }
 
--- where nothing was asked all goes on
-pub none_goes_on : (calls : Option (List ConnectionCall)) (seats : List ConversationState)
-    → GoesOnIfTold calls calls seats seats
-none_goes_on None seats = tt
-none_goes_on (Some calls) seats = going_none calls seats
+-- one that has a place in between or not
+gone_next : (has : Bool) (rule : Rule) (n : ℕ) (one two three : List ConnectionCall)
+    (a b c : List ConversationState) → has_seat n b ≡ has → GoesOn rule one two a b
+    → GoesOn rule two three b c → has_seat n a ≡ true → has_seat n c ≡ false
+    → HasGone rule n three
+gone_next true rule n one two three a b c mid first second some none = second.gone n mid none
+gone_next false rule n one two three a b c mid first second some none =
+    gone_kept rule n two three second.more second.told (second.others n mid).unheard
+    (first.gone n some mid)
 
--- one that has a seat in between or not
-left_next : (has : Bool) (n : ℕ) (one two three : List ConnectionCall)
-    (a b c : List ConversationState) → has_seat n b ≡ has → GoesOn one two a b
-    → GoesOn two three b c → has_seat n a ≡ true → has_seat n c ≡ false → HasLeft n three
-left_next true n one two three a b c mid first second some none = second.left n mid none
-left_next false n one two three a b c mid first second some none =
-    left_kept n two three second.more second.told (second.others n mid).unheard
-    (first.left n some mid)
-
--- what goes on after what goes on, by calls that are reported
-going_next : (one two three : List ConnectionCall) (a b c : List ConversationState)
-    → GoesOn one two a b → GoesOn two three b c → GoesOn one three a c
-going_next one two three a b c first second = record {
+-- what goes on after what goes on
+pub going_next : (rule : Rule) (one two three : List ConnectionCall)
+    (a b c : List ConversationState) → GoesOn rule one two a b → GoesOn rule two three b c
+    → GoesOn rule one three a c
+going_next rule one two three a b c first second = record {
   more = first.more ++ second.more;
   told = second.told ∙ ap (λ (calls : List ConnectionCall). calls ++ second.more) first.told
       ∙ append_assoc one first.more second.more;
@@ -80,184 +117,102 @@ going_next one two three a b c first second = record {
         };
         unseated = late.unseated;
       };
-  left = λ n some none.
-      left_next (has_seat n b) n one two three a b c refl first second some none;
+  gone = λ n some none.
+      gone_next (has_seat n b) rule n one two three a b c refl first second some none;
 }
 
--- what goes on after what goes on
-pub goes_on_next : (one two three : Option (List ConnectionCall))
-    (a b c : List ConversationState) → GoesOnIfTold one two a b → GoesOnIfTold two three b c
-    → GoesOnIfTold one three a c
-goes_on_next None None None a b c first second = tt
-goes_on_next None None (Some three) a b c first second = absurd second
-goes_on_next None (Some two) three a b c first second = absurd first
-goes_on_next (Some one) None None a b c first second = tt
-goes_on_next (Some one) None (Some three) a b c first second = absurd second
-goes_on_next (Some one) (Some two) None a b c first second = tt
-goes_on_next (Some one) (Some two) (Some three) a b c first second =
-    going_next one two three a b c first second
-
--- those that have a seat, with the one that changes
-pub seat_among : (n : ℕ) (seats front back : List ConversationState) (c : ConversationState)
-    → seats ≡ front ++ c ∷ back
-    → has_seat n seats ≡ (has_seat n front || (is_of n c || has_seat n back))
-seat_among n seats front back c is =
-    ap (has_seat n) is ∙ list_any-append (is_of n) front (c ∷ back)
-
--- the same have a seat where the one that changes stays that of its connection
-pub same_seats : (n : ℕ) (seats seats_then : List ConversationState) (c c_then : ConversationState)
-    → Changes seats seats_then c c_then → c_then.number ≡ c.number
-    → has_seat n seats_then ≡ has_seat n seats
-same_seats n seats seats_then c c_then changes number =
-    seat_among n seats_then changes.front changes.back c_then changes.is
-    ∙ ap (λ (whose : Option ℕ).
-    has_seat n changes.front || (speaks whose n || has_seat n changes.back)) number
-    ∙ sym (seat_among n seats changes.front changes.back c changes.was)
-
--- around a seat where a connection has none it has none, nor is it of that seat
-pub none_among : (n : ℕ) (seats front back : List ConversationState) (c : ConversationState)
-    → seats ≡ front ++ c ∷ back → has_seat n seats ≡ false
-    → (has_seat n front ≡ false) × (is_of n c ≡ false) × (has_seat n back ≡ false)
-none_among n seats front back c is none =
-    let parts = or_parts (has_seat n front) (is_of n c || has_seat n back)
-    (sym (seat_among n seats front back c is) ∙ none) in
-    let rest = or_parts (is_of n c) (has_seat n back) parts.1 in
-    (parts.0, rest.0, rest.1)
-
--- a turn of the connection at a seat, by calls that are reported
-going_turn : (calls calls_then : List ConnectionCall) (seats seats_then : List ConversationState)
-    (c c_then : ConversationState) (n : ℕ) (lines : List (List ℕ))
-    → Changes seats seats_then c c_then → c.number ≡ Some n → c_then.number ≡ c.number
-    → HasTurn n calls calls_then c c_then lines → GoesOn calls calls_then seats seats_then
-going_turn calls calls_then seats seats_then c c_then n lines changes number kept turn =
-    let same : (k : ℕ) → has_seat k seats_then ≡ has_seat k seats = λ k.
-    same_seats k seats seats_then c c_then changes kept in
+-- a turn of the connection at a seat
+pub going_turn : (rule : Rule) (calls calls_then : List ConnectionCall)
+    (places places_then : List ConversationState) (c c_then : ConversationState) (n : ℕ)
+    (lines : List (List ℕ)) → Changes places places_then c c_then → c.number ≡ Some n
+    → c_then.number ≡ c.number → HasTurn n calls calls_then c c_then lines
+    → GoesOn rule calls calls_then places places_then
+going_turn rule calls calls_then places places_then c c_then n lines changes number kept turn =
+    let same : (k : ℕ) → has_seat k places_then ≡ has_seat k places = λ k.
+    same_seats k places places_then c c_then changes kept in
     record {
       more = turn.more;
       told = turn.told;
       come = turn.come;
       others = λ k none.
-          let around = none_among k seats changes.front changes.back c changes.was none in
+          let around = none_among k places changes.front changes.back c changes.was none in
           let other : k ≢ n = λ is. never_both (is_of k c)
-          (ap (λ (whose : Option ℕ). speaks whose k) number ∙ eq-eqb n k (sym is))
-          around.1 in
+          (ap (λ whose. speaks whose k) number ∙ eq-eqb n k (sym is)) around.1 in
           record { unheard = turn.others k other; unseated = same k ∙ none };
-      left = λ k some none. never_both (has_seat k seats) some (sym (same k) ∙ none);
+      gone = λ k some none. never_both (has_seat k places) some (sym (same k) ∙ none);
     }
 
--- a turn of the connection at a seat
-pub goes_on_turn : (calls calls_then : Option (List ConnectionCall))
-    (seats seats_then : List ConversationState) (c c_then : ConversationState) (n : ℕ)
-    (lines : List (List ℕ)) → Changes seats seats_then c c_then → c.number ≡ Some n
-    → c_then.number ≡ c.number → HasTurnIfTold n calls calls_then c c_then lines
-    → GoesOnIfTold calls calls_then seats seats_then
-goes_on_turn None None seats seats_then c c_then n lines changes number kept turn = tt
-goes_on_turn None (Some calls_then) seats seats_then c c_then n lines changes number kept turn =
-    absurd turn
-goes_on_turn (Some calls) None seats seats_then c c_then n lines changes number kept turn = tt
-goes_on_turn (Some calls) (Some calls_then) seats seats_then c c_then n lines changes number kept
-    turn =
-    going_turn calls calls_then seats seats_then c c_then n lines changes number kept turn
-
--- a connection is over where what is known of it is done
-pub over_heard : (calls : List ConnectionCall) (n : ℕ) (c : ConversationState) → IsHeard calls n c
-    → is_over n calls ≡ is_done c
-over_heard calls n c heard =
-    ap (λ (over : Bool). over || is_too_long (bytes_from n calls)) heard.ended
-    ∙ ap (λ (bytes : List ℕ). c.ended || is_too_long bytes) heard.bytes
-    ∙ ap (λ (rest : List ℕ). c.ended || nat_le line_limit (length rest))
-    (rest_behind heard.before c.bytes heard.whole)
-
--- a connection is over whose seat is done
-pub done_over : (calls : List ConnectionCall) (n : ℕ) (c : ConversationState) → IsHeard calls n c
-    → is_done c ≡ true → is_over n calls ≡ true
-done_over calls n c heard done = over_heard calls n c heard ∙ done
-
--- a connection that is done was closed, by calls that are reported
-going_closed : (calls calls_then : List ConnectionCall) (n : ℕ)
-    (seats seats_then : List ConversationState) (c : ConversationState) (came : ℕ)
-    → calls_then ≡ calls ++ Closes n ∷ [] → Changes seats seats_then c free_seat
-    → c.number ≡ Some n → is_done c ≡ true → AreTrueOf calls seats came
-    → GoesOn calls calls_then seats seats_then
-going_closed calls calls_then n seats seats_then c came told changes number done known =
-    let more = Closes n ∷ [] in
-    let unheard = unheard_by calls calls_then more (close_quiet n).unheard told in
+-- the connection at a place was closed
+pub going_ended : (rule : Rule) (calls calls_then more : List ConnectionCall)
+    (places places_then : List ConversationState) (c : ConversationState) (n : ℕ)
+    → calls_then ≡ calls ++ more → AreQuiet more → Changes places places_then c free_seat
+    → c.number ≡ Some n → HasGone rule n calls_then
+    → GoesOn rule calls calls_then places places_then
+going_ended rule calls calls_then more places places_then c n told quiet changes number fate =
+    let unheard = unheard_by calls calls_then more quiet.unheard told in
     record {
       more = more;
       told = told;
-      come = rw told (quiet_come calls more (close_quiet n));
+      come = rw told (quiet_come calls more quiet);
       others = λ k none.
-          let around = none_among k seats changes.front changes.back c changes.was none in
+          let around = none_among k places changes.front changes.back c changes.was none in
           record {
             unheard = unheard k;
-            unseated = seat_among k seats_then changes.front changes.back free_seat changes.is
+            unseated = seat_among k places_then changes.front changes.back free_seat changes.is
                 ∙ or_from (has_seat k changes.front) (has_seat k changes.back) around.0
                 around.2;
           };
-      left = λ k some none.
-          let around = none_among k seats_then changes.front changes.back free_seat changes.is
+      gone = λ k some none.
+          let around = none_among k places_then changes.front changes.back free_seat changes.is
           none in
-          let among = seat_among k seats changes.front changes.back c changes.was in
+          let among = seat_among k places changes.front changes.back c changes.was in
           let here = left_true (is_of k c) (sym (rw (around.0, around.2) at among) ∙ some) in
           let whose : Some n ≡ Some k = sym number ∙ number_of_same c.number k here in
           let same : n ≡ k = cc in
-          let was = heard_here calls seats seats_then c free_seat n came changes number known in
-          subst (λ (m : ℕ). HasLeft m calls_then) same (record {
-            before = calls;
-            behind = [];
-            over = done_over calls n c was done;
-            told = told;
-            unread = unheard n;
-          });
+          subst (λ (m : ℕ). HasGone rule m calls_then) same fate;
     }
 
--- a connection that is done was closed
-pub goes_on_closed : (calls calls_then : Option (List ConnectionCall)) (n : ℕ)
-    (seats seats_then : List ConversationState) (c : ConversationState) (came : ℕ)
-    → TellsMore calls calls_then (Closes n ∷ []) → Changes seats seats_then c free_seat
-    → c.number ≡ Some n → is_done c ≡ true → AreTrueIfTold calls seats came
-    → GoesOnIfTold calls calls_then seats seats_then
-goes_on_closed None None n seats seats_then c came told changes number done known = tt
-goes_on_closed None (Some calls_then) n seats seats_then c came told changes number done known =
-    absurd told
-goes_on_closed (Some calls) None n seats seats_then c came told changes number done known = tt
-goes_on_closed (Some calls) (Some calls_then) n seats seats_then c came told changes number done
-    known =
-    going_closed calls calls_then n seats seats_then c came told changes number done known
+-- after two of them were exchanged
+pub going_moved : (rule : Rule) (calls calls_then : List ConnectionCall)
+    (a b c : List ConversationState) → Moves b c → GoesOn rule calls calls_then a b
+    → GoesOn rule calls calls_then a c
+going_moved rule calls calls_then a b c moved goes = record {
+  more = goes.more;
+  told = goes.told;
+  come = goes.come;
+  others = λ n none. record {
+    unheard = (goes.others n none).unheard;
+    unseated = moved.has n ∙ (goes.others n none).unseated;
+  };
+  gone = λ n some none. goes.gone n some (sym (moved.has n) ∙ none);
+}
 
--- one that has a seat after one changed, and not that one, had a seat
-pub had_seat : (k : ℕ) (seats seats_then : List ConversationState) (c c_then : ConversationState)
-    → Changes seats seats_then c c_then → is_of k c_then ≡ false → has_seat k seats_then ≡ true
-    → has_seat k seats ≡ true
-had_seat k seats seats_then c c_then changes other some =
-    true_from_ne_false (has_seat k seats) (λ none.
-    let around = none_among k seats changes.front changes.back c changes.was none in
-    never_both (has_seat k seats_then) some
-    (seat_among k seats_then changes.front changes.back c_then changes.is
-    ∙ or_from (has_seat k changes.front) (is_of k c_then || has_seat k changes.back) around.0
-    (or_from (is_of k c_then) (has_seat k changes.back) other around.2)))
+-- one that has a place has it still, or was closed
+placed_then : (has : Bool) (rule : Rule) (n : ℕ) (calls calls_then : List ConnectionCall)
+    (places places_then : List ConversationState) → has_seat n places_then ≡ has
+    → GoesOn rule calls calls_then places places_then → has_seat n places ≡ true
+    → IsServed rule n calls_then places_then
+placed_then true rule n calls calls_then places places_then then goes some = inl then
+placed_then false rule n calls calls_then places places_then then goes some =
+    inr (goes.gone n some then)
 
--- one seat more, which is that of the connection or not
-unseated_step : (is : Bool) (n : ℕ) (c : ConversationState) (seats : List ConversationState)
-    → is_of n c ≡ is → (seats_of n seats ≡ 0 → has_seat n seats ≡ false)
-    → (if is then 1 else 0) + seats_of n seats ≡ 0 → (is_of n c || has_seat n seats) ≡ false
-unseated_step true n c seats here later none = absurd (omega (arith, none))
-unseated_step false n c seats here later none =
-    or_from (is_of n c) (has_seat n seats) here (later (omega (arith, none)))
+-- one that was closed stays so, unless it has a place
+closed_then : (has : Bool) (rule : Rule) (n : ℕ) (calls calls_then : List ConnectionCall)
+    (places places_then : List ConversationState) → has_seat n places ≡ has
+    → GoesOn rule calls calls_then places places_then → HasGone rule n calls
+    → IsServed rule n calls_then places_then
+closed_then true rule n calls calls_then places places_then was goes gone =
+    placed_then (has_seat n places_then) rule n calls calls_then places places_then refl goes was
+closed_then false rule n calls calls_then places places_then was goes gone =
+    inr (gone_kept rule n calls calls_then goes.more goes.told (goes.others n was).unheard gone)
 
--- a connection with no seats has none
-pub unseated : (n : ℕ) (seats : List ConversationState) → seats_of n seats ≡ 0
-    → has_seat n seats ≡ false
-unseated n [] none = refl
-unseated n (c ∷ seats) none =
-    unseated_step (is_of n c) n c seats refl (unseated n seats) none
-
--- the connection at the seat that changes has no seat where another one has it, or none
-pub gone_seat : (seats seats_then : List ConversationState) (c : ConversationState) (n came : ℕ)
-    → Changes seats seats_then c free_seat → c.number ≡ Some n → AreSeated seats came
-    → has_seat n seats_then ≡ false
-gone_seat seats seats_then c n came changes number seated =
-    let one = alone seats changes.front changes.back c n came changes.was number seated in
-    seat_among n seats_then changes.front changes.back free_seat changes.is
-    ∙ or_from (has_seat n changes.front) (has_seat n changes.back)
-    (unseated n changes.front one.before) (unseated n changes.back one.behind)
+-- one that is served is served after calls by which all goes on
+pub served_then : (rule : Rule) (n : ℕ) (calls calls_then : List ConnectionCall)
+    (places places_then : List ConversationState) → GoesOn rule calls calls_then places places_then
+    → IsServed rule n calls places → IsServed rule n calls_then places_then
+served_then rule n calls calls_then places places_then goes served = elim served [
+  | inl some ↦ placed_then (has_seat n places_then) rule n calls calls_then places places_then refl
+      goes some
+  | inr gone ↦ closed_then (has_seat n places) rule n calls calls_then places places_then refl goes
+      gone
+]

@@ -1,17 +1,13 @@
 -- What is handed in over several calls.
--- For `ControlPath`.
+-- For `Path`.
 -- By: what comes next after what comes next is what comes next of both.
 use Rattle.std.proofs.Common.{◌≡◌, ◌++◌, List, [], Option, Some, None, ap, sym, ◌∙◌}
 use Rattle.std.proofs.Common.{append_assoc}
 use Rattle.std.proofs.lemmas.List.{append-nil}
-use Rattle.trdp_lines.specs.Connections.{ConnectionCall, TellsMore}
+use Rattle.trdp_base.specs.Reported.{TellsMore}
+use Rattle.trdp_lines.specs.Connections.{ConnectionCall}
 use Rattle.trdp_lines.specs.Said.{Said, HandsIn, applications_say}
 use Rattle.trdp_lines.proofs.CallLemmas.{AreQuiet, quiet_say}
-
--- nothing was asked
-pub tells_nothing : (calls : Option (List ConnectionCall)) → TellsMore calls calls []
-tells_nothing None = tt
-tells_nothing (Some calls) = sym (append-nil calls)
 
 -- what is handed in first, and what is handed in after it
 pub both_handed_in : (says : List ConnectionCall → List Said)
@@ -42,13 +38,6 @@ pub none_handed_in : (says : List ConnectionCall → List Said) (old new : List 
     (left : List Said) → says new ≡ says old → HandsIn says (Some old) (Some new) left left []
 none_handed_in says old new left same = λ front is.
     same ∙ is ∙ ap (λ (l : List Said). l ++ left) (sym (append-nil front))
-
--- where nothing is left, and more is said, that is left
-pub more_left : (says : List ConnectionCall → List Said) (old new : List ConnectionCall)
-    (left more : List Said) → left ≡ [] → says new ≡ says old ++ more
-    → HandsIn says (Some old) (Some new) left more []
-more_left says old new left more none said = λ front is.
-    said ∙ ap (λ (l : List Said). l ++ more) (is ∙ ap (λ (l : List Said). front ++ l) none)
 
 -- calls by which nothing came hand in nothing
 pub quiet_handed_in : (old new : Option (List ConnectionCall)) (more : List ConnectionCall)

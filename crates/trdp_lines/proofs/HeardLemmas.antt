@@ -1,5 +1,5 @@
 -- What a connection is known to have said, where one of its lines is handed in.
--- For `hear` and the path of the operator's port.
+-- For `Path`.
 -- By: whole lines come first, and a line with its end is one of them.
 use Rattle.std.proofs.Common.{◌≡◌, ℕ, ◌==◌, ◌++◌, List, [], ◌∷◌, true, false, refl, ap, sym}
 use Rattle.std.proofs.Common.{subst, ◌∙◌, append_assoc}
@@ -9,9 +9,9 @@ use Rattle.trdp_lines.specs.Connections.{ConnectionCall}
 use Rattle.trdp_lines.specs.Conversations.{ConversationState}
 use Rattle.trdp_lines.specs.Lines.{line_end, has_line, first_line, behind_line, rest_of}
 use Rattle.trdp_lines.specs.Lines.{longer_first, lines_in}
-use Rattle.trdp_lines.specs.Paths.{IsHeard}
+use Rattle.trdp_lines.specs.Paths.{IsWhatWasRead}
 use Rattle.trdp_lines.specs.Said.{Said, lines_of, said_by}
-use Rattle.trdp_lines.specs.Seats.{StaysHeard}
+use Rattle.trdp_lines.specs.Turns.{StaysHeard}
 use Rattle.trdp_lines.proofs.ConversationLemmas.{line_in_parts, line_in_whole, rest_behind}
 use Rattle.trdp_lines.proofs.ConversationLemmas.{whole_line, whole_rest, whole_split}
 use Rattle.trdp_lines.proofs.LineLemmas.{first_unended, lines_stay}
@@ -33,7 +33,7 @@ whole_first before bytes whole =
 
 -- what a connection says is what was handed in of it, and what is left
 lines_heard : (calls : List ConnectionCall) (n : ℕ) (c : ConversationState)
-    (was : IsHeard calls n c)
+    (was : IsWhatWasRead calls n c)
     → lines_of calls n ≡ said_by n (lines_in was.before) ++ said_by n (lines_in c.bytes)
 lines_heard calls n c was =
     ap (λ (bytes : List ℕ). said_by n (lines_in bytes)) was.bytes
@@ -42,7 +42,7 @@ lines_heard calls n c was =
 
 -- the lines of a turn come next
 pub heard_next : (calls calls_then : List ConnectionCall) (n : ℕ) (c c_then : ConversationState)
-    (lines : List (List ℕ)) (was : IsHeard calls n c)
+    (lines : List (List ℕ)) (was : IsWhatWasRead calls n c)
     → StaysHeard n calls calls_then c c_then lines was → (before : List Said)
     → lines_of calls n ≡ before ++ said_by n (lines_in c.bytes)
     → lines_of calls_then n ≡ before ++ said_by n lines ++ said_by n (lines_in c_then.bytes)
@@ -58,7 +58,7 @@ heard_next calls calls_then n c c_then lines was stays before is =
 
 -- the first line of a connection is handed in
 pub line_handed : (n : ℕ) (calls : List ConnectionCall) (c : ConversationState)
-    → has_line c.bytes ≡ true → (was : IsHeard calls n c)
+    → has_line c.bytes ≡ true → (was : IsWhatWasRead calls n c)
     → StaysHeard n calls calls c
     (record c { bytes = behind_line c.bytes; spoke = true }) (first_line c.bytes ∷ []) was
 line_handed n calls c has was =

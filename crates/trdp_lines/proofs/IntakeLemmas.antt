@@ -7,7 +7,7 @@ use Rattle.std.proofs.lemmas.List.{take_at, drop_at, take-take, drop-take, take-
 use Rattle.std.proofs.lemmas.List.{length-drop, length-take-le, take-append-le}
 use Rattle.trdp_lines.specs.declared.connections.Came.{Came}
 use Rattle.trdp_lines.specs.declared.connections.Came.TheVariants.{Bytes, Nothing, Ended}
-use Rattle.trdp_lines.specs.Connections.{reading_of, came_count, bytes_of}
+use Rattle.trdp_lines.specs.Connections.{reading_of, came_count, reading_bytes}
 use Rattle.trdp_lines.specs.Connections.{CameWithin, SomeBytes}
 use Rattle.trdp_lines.specs.Intakes.{intake_room, lying, LieInOrder, reading_between}
 use Rattle.trdp_lines.specs.Lines.{has_line}
@@ -26,7 +26,7 @@ told_between Nothing old bytes = refl
 told_between Ended old bytes = refl
 
 pub came_of : (came : Came) (room : ℕ) (bytes : List ℕ)
-    → bytes_of (reading_of came room bytes) ≡ take (came_count came) bytes
+    → reading_bytes (reading_of came room bytes) ≡ take (came_count came) bytes
 came_of (Bytes n) room bytes = refl
 came_of Nothing room bytes = refl
 came_of Ended room bytes = refl
@@ -72,11 +72,11 @@ module _ (came : Came) (items room rest : List ℕ) (len begin «end» : ℕ)
     lying_length items begin «end» within,
   ) refl
 
-  pub grown_by : new ≡ old ++ bytes_of (reading_between came old new)
+  pub grown_by : new ≡ old ++ reading_bytes (reading_between came old new)
   grown_by =
-      let read : bytes_of (reading_between came old new)
+      let read : reading_bytes (reading_between came old new)
       ≡ take (came_count came) (drop («end» - begin) room) =
-      ap bytes_of read_between
+      ap reading_bytes read_between
       ∙ came_of came (intake_room - («end» - begin)) (drop («end» - begin) room) in
       added ∙ ap (λ (l : List ℕ). old ++ l) (sym read)
 

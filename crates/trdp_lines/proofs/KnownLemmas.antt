@@ -1,6 +1,6 @@
 -- What is known of the connections at the seats of a path, after one of them had its turn, one
 -- was closed, and one came.
--- For the path of the operator's port.
+-- For `Path`.
 -- By: a connection has no second seat; calls that read nothing leave all as it was.
 use Rattle.std.proofs.Common.{◌≡◌, ℕ, ◌+◌, ◌≤◌, ◌++◌, ◌≢◌, List, [], ◌∷◌}
 use Rattle.std.proofs.Common.{Option, Some, refl, sym, subst}
@@ -8,9 +8,10 @@ use Rattle.std.proofs.Common.{◌∙◌, arith}
 use Rattle.trdp_lines.specs.Closings.{IsUnheard}
 use Rattle.trdp_lines.specs.Connections.{ConnectionCall}
 use Rattle.trdp_lines.specs.Conversations.{ConversationState, conversation_of}
-use Rattle.trdp_lines.specs.OperatorPaths.{free_seat}
+use Rattle.trdp_lines.specs.Seats.{free_seat}
 use Rattle.trdp_lines.specs.Paths.{IsUnreadFrom}
-use Rattle.trdp_lines.specs.Seats.{AreHeard, AreSeated, AreTrueOf, HasTurn, IsHeardIf}
+use Rattle.trdp_lines.specs.Seatings.{AreHeard, AreSeated, AreTrueOf, IsHeardIf}
+use Rattle.trdp_lines.specs.Turns.{HasTurn}
 use Rattle.trdp_lines.proofs.SeatLemmas.{Changes, heard_back, heard_both, heard_front}
 use Rattle.trdp_lines.proofs.SeatLemmas.{seats_kept}
 use Rattle.trdp_lines.proofs.SeatedLemmas.{alone, seated_other}

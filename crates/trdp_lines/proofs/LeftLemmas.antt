@@ -1,5 +1,5 @@
 -- What is handed in, and left to hand in, where one of the seats of a path changes.
--- For the path of the operator's port.
+-- For `Path`, where operators speak.
 -- By: of one connection the lines of its turn come next; of each other one all is as it was.
 use Rattle.std.proofs.Common.{◌≡◌, ℕ, ◌==◌, ◌++◌, ◌≢◌, List, [], ◌∷◌, Bool, true, false}
 use Rattle.std.proofs.Common.{if◌then◌else◌, Option, Some, None, refl, ap, sym, subst, ◌∙◌}
@@ -9,10 +9,11 @@ use Rattle.std.proofs.lemmas.List.{append-nil}
 use Rattle.trdp_lines.specs.Connections.{ConnectionCall}
 use Rattle.trdp_lines.specs.Conversations.{ConversationState, conversation_of}
 use Rattle.trdp_lines.specs.Lines.{IsUnended, lines_in}
-use Rattle.trdp_lines.specs.OperatorPaths.{is_of, left_at_seat, left_in}
-use Rattle.trdp_lines.specs.Paths.{IsHeard, speaks}
+use Rattle.trdp_lines.specs.Seats.{is_of, left_at_seat, left_in}
+use Rattle.trdp_lines.specs.Paths.{IsWhatWasRead, speaks}
 use Rattle.trdp_lines.specs.Said.{Said, HandsIn, bytes_from, lines_of, said_by}
-use Rattle.trdp_lines.specs.Seats.{AreSeated, AreTrueOf, HasTurn, IsHeardIf}
+use Rattle.trdp_lines.specs.Seatings.{AreSeated, AreTrueOf, IsHeardIf}
+use Rattle.trdp_lines.specs.Turns.{HasTurn}
 use Rattle.trdp_lines.proofs.HeardLemmas.{heard_next}
 use Rattle.trdp_lines.proofs.SeatedLemmas.{alone}
 use Rattle.trdp_lines.proofs.LineLemmas.{none_comes}
@@ -59,7 +60,7 @@ other_texts k n (line ∷ lines) other = rw other (other_texts k n lines other)
 -- what the connection at the seat that changes is known to have said
 pub heard_here : (calls : List ConnectionCall) (seats seats_then : List ConversationState)
     (c c_then : ConversationState) (n came : ℕ) → Changes seats seats_then c c_then
-    → c.number ≡ Some n → AreTrueOf calls seats came → IsHeard calls n c
+    → c.number ≡ Some n → AreTrueOf calls seats came → IsWhatWasRead calls n c
 heard_here calls seats seats_then c c_then n came changes number known =
     let all = heard_back calls changes.front (c ∷ changes.back)
     (rw changes.was at known.heard) in

@@ -11,7 +11,7 @@ use Rattle.trdp_lines.specs.Outgoings.{OutgoingState, no_outgoing, lost_limit, l
 use Rattle.trdp_lines.specs.Outgoings.{lost_told, with_text, takes_text, can_tell, finds_room}
 use Rattle.trdp_lines.specs.Outgoings.{with_bytes}
 use Rattle.trdp_lines.specs.OutgoingRuns.{OutgoingStep, Pushed, Told, Took, Piece, Whole, Dropped}
-use Rattle.trdp_lines.specs.OutgoingRuns.{after_steps, taken, gone_and_waiting}
+use Rattle.trdp_lines.specs.OutgoingRuns.{after_steps, all_taken, gone_and_waiting}
 use Rattle.trdp_lines.specs.OutgoingRuns.{texts_of, bytes_of_pieces, StandFor, GoesWhole}
 
 -- these bytes are those that wait and pieces after them, which represent these texts
@@ -134,7 +134,7 @@ goes (Took n ∷ steps) state most untold count =
     let whole = take-append-drop n state.waiting in
     record {
       pieces = rest.pieces;
-      bytes_are = append_assoc front (taken next steps) (after_steps next steps).waiting
+      bytes_are = append_assoc front (all_taken next steps) (after_steps next steps).waiting
           ∙ ap (λ (l : List ℕ). front ++ l) rest.bytes_are
           ∙ sym (append_assoc front (drop n state.waiting) (bytes_of_pieces rest.pieces))
           ∙ ap (λ (l : List ℕ). l ++ bytes_of_pieces rest.pieces) whole;

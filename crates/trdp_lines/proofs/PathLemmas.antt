@@ -1,25 +1,23 @@
 -- What is known of the connections at a path, over the calls that it makes.
--- For `ControlPath`.
+-- For `Path`, where an application speaks.
 -- By: cases on whether a connection speaks and one waits; only a read adds to what was heard.
-use Rattle.std.proofs.Common.{false, ◌≡◌, ◌++◌, ℕ, ◌+◌, ◌<◌, ◌≤◌, List, [], ◌∷◌, true}
-use Rattle.std.proofs.Common.{Option, Some, None, refl, ap, sym, ◌∙◌, append_assoc}
+use Rattle.std.proofs.Common.{false, ◌≡◌, ◌≢◌, ◌++◌, ℕ, ◌+◌, ◌<◌, ◌≤◌, List, [], ◌∷◌}
+use Rattle.std.proofs.Common.{Option, Some, None, refl, ap, ◌∙◌, append_assoc}
 use Rattle.std.proofs.Common.{arith}
 use Rattle.std.specs.Prelude.{All}
-use Rattle.std.proofs.lemmas.Bool.{or_right}
 use Rattle.std.proofs.lemmas.List.Elements.{All-nil, All-cons, All-append, All-same, All-weaker}
-use Rattle.std.proofs.lemmas.List.Elements.{All-pop}
+use Rattle.std.proofs.lemmas.List.Elements.{All-pop, All-head, All-tail}
 use Rattle.trdp_lines.specs.declared.connections.Accepted.TheVariants.{Came}
 use Rattle.trdp_lines.specs.Connections.{ConnectionCall, Accepts}
 use Rattle.trdp_lines.specs.Conversations.{ConversationState, conversation_of}
-use Rattle.trdp_lines.specs.Lines.{has_line, first_line, behind_line}
-use Rattle.trdp_lines.specs.Outgoings.{OutgoingState}
-use Rattle.trdp_lines.specs.Paths.{ArePast, HaveCome, IsHeard, IsSpeaker, IsTrueOf, IsUnreadFrom}
+use Rattle.trdp_lines.specs.Paths.{ArePast, HaveCome, IsWhatWasRead, IsSpeaker, IsTrueOf}
+use Rattle.trdp_lines.specs.Paths.{IsUnreadFrom}
 use Rattle.trdp_lines.specs.Said.{connections_in, lives}
-use Rattle.trdp_lines.proofs.CallLemmas.{AreUnheard, AreQuiet}
+use Rattle.trdp_lines.specs.Turns.{HasTurn}
+use Rattle.trdp_lines.specs.Closings.{IsUnheard}
+use Rattle.trdp_lines.proofs.CallLemmas.{AreUnheard, AreQuiet, lives_alike}
 use Rattle.trdp_lines.proofs.CallLemmas.{unheard_bytes, unheard_end, unheard_past, unread_past}
 use Rattle.trdp_lines.proofs.CallLemmas.{come_by, quiet_come, accept_unheard}
-use Rattle.trdp_lines.proofs.ConversationLemmas.{whole_line, whole_split, whole_rest}
-use Rattle.trdp_lines.proofs.ConversationLemmas.{rest_behind, line_in_parts, line_in_whole}
 
 -- what was unread is so after calls by which nothing came
 unread_more : (calls more : List ConnectionCall) (bound : ℕ) → AreUnheard more
@@ -52,9 +50,8 @@ quiet_have_come calls more came quiet have = All-same (λ m. m ≤ came)
 
 -- a connection is known as it was after calls by which nothing came
 heard_more : (calls more : List ConnectionCall) (n : ℕ) (c : ConversationState)
-    (out : OutgoingState) → AreUnheard more → IsHeard calls n c
-    → IsHeard (calls ++ more) n (record c { outgoing = out })
-heard_more calls more n c out unheard heard = record {
+    → AreUnheard more → IsWhatWasRead calls n c → IsWhatWasRead (calls ++ more) n c
+heard_more calls more n c unheard heard = record {
   before = heard.before;
   bytes = unheard_bytes calls more unheard n ∙ heard.bytes;
   whole = heard.whole;
@@ -64,10 +61,9 @@ heard_more calls more n c out unheard heard = record {
 
 -- the one that speaks still does after calls by which nothing came, and only later connections
 speaker_more : (calls more : List ConnectionCall) (n : ℕ) (c : ConversationState)
-    (out : OutgoingState) (came came_then : ℕ) → AreUnheard more
-    → All (λ m. n < m) (connections_in more) → came ≤ came_then → IsSpeaker calls n c came
-    → IsSpeaker (calls ++ more) n (record c { outgoing = out }) came_then
-speaker_more calls more n c out came came_then unheard above higher speaker = record {
+    (came came_then : ℕ) → AreUnheard more → All (λ m. n < m) (connections_in more)
+    → came ≤ came_then → IsSpeaker calls n c came → IsSpeaker (calls ++ more) n c came_then
+speaker_more calls more n c came came_then unheard above higher speaker = record {
   earlier = speaker.earlier;
   later = speaker.later ++ connections_in more;
   connections = come_by calls more
@@ -78,39 +74,37 @@ speaker_more calls more n c out came came_then unheard above higher speaker = re
   later_above = All-append (λ m. n < m) speaker.later (connections_in more)
       speaker.later_above above;
   unread = unread_more calls more (n + 1) unheard speaker.unread;
-  heard = heard_more calls more n c out unheard speaker.heard;
+  heard = heard_more calls more n c unheard speaker.heard;
   within = omega (arith, higher, speaker.within);
 }
 
 -- it does after quiet calls
-quiet_speaker : (calls more : List ConnectionCall) (n : ℕ) (c : ConversationState)
-    (out : OutgoingState) (came : ℕ) → AreQuiet more → IsSpeaker calls n c came
-    → IsSpeaker (calls ++ more) n (record c { outgoing = out }) came
-quiet_speaker calls more n c out came quiet speaker =
-    speaker_more calls more n c out came came quiet.unheard
+quiet_speaker : (calls more : List ConnectionCall) (n : ℕ) (c : ConversationState) (came : ℕ)
+    → AreQuiet more → IsSpeaker calls n c came → IsSpeaker (calls ++ more) n c came
+quiet_speaker calls more n c came quiet speaker =
+    speaker_more calls more n c came came quiet.unheard
     (All-same (λ m. n < m) (connections_in more) [] quiet.none_came (All-nil (λ m. n < m)))
     (omega arith) speaker
 
 -- calls by which nothing and no connection came change nothing that is known
 pub quiet_true : (calls more : List ConnectionCall) (number : Option ℕ) (c : ConversationState)
-    (out : OutgoingState) (waiting : Option ℕ) (came : ℕ) → AreQuiet more
-    → IsTrueOf calls number c waiting came
-    → IsTrueOf (calls ++ more) number (record c { outgoing = out }) waiting came
-quiet_true calls more None c out None came quiet is = (
+    (waiting : Option ℕ) (came : ℕ) → AreQuiet more → IsTrueOf calls number c waiting came
+    → IsTrueOf (calls ++ more) number c waiting came
+quiet_true calls more None c None came quiet is = (
   quiet_have_come calls more came quiet is.0,
   unread_more calls more (came + 1) quiet.unheard is.1,
   All-same (λ m. lives (calls ++ more) m ≡ false) (connections_in (calls ++ more))
       (connections_in calls) (quiet_come calls more quiet)
       (unheard_past calls more quiet.unheard (connections_in calls) is.2),
 )
-quiet_true calls more None c out (Some next) came quiet is = absurd is
-quiet_true calls more (Some n) c out None came quiet is = (
+quiet_true calls more None c (Some next) came quiet is = absurd is
+quiet_true calls more (Some n) c None came quiet is = (
   quiet_have_come calls more came quiet is.0,
-  quiet_speaker calls more n c out came quiet is.1,
+  quiet_speaker calls more n c came quiet is.1,
 )
-quiet_true calls more (Some n) c out (Some next) came quiet is = (
+quiet_true calls more (Some n) c (Some next) came quiet is = (
   quiet_have_come calls more came quiet is.0,
-  quiet_speaker calls more n c out came quiet is.1,
+  quiet_speaker calls more n c came quiet is.1,
   record {
     earlier = is.2.earlier;
     connections = quiet_come calls more quiet ∙ is.2.connections;
@@ -122,7 +116,7 @@ quiet_true calls more (Some n) c out (Some next) came quiet is = (
 
 -- from a connection that just came nothing was read
 new_heard : (calls : List ConnectionCall) (n bound : ℕ) → bound ≤ n → IsUnreadFrom bound calls
-    → IsHeard calls n (conversation_of (Some n))
+    → IsWhatWasRead calls n (conversation_of (Some n))
 new_heard calls n bound above unread = record {
   before = [];
   bytes = (unread n above).0;
@@ -223,7 +217,7 @@ pub behind_true : (calls : List ConnectionCall) (n : ℕ) (c : ConversationState
 behind_true calls n c came is =
     let above : n < came + 1 = omega (arith, is.1.within) in (
       next_have_come calls came is.0,
-      speaker_more calls (Accepts (came + 1) Came ∷ []) n c c.outgoing came (came + 1)
+      speaker_more calls (Accepts (came + 1) Came ∷ []) n c came (came + 1)
           (accept_unheard (came + 1) Came)
           (All-cons (λ m. n < m) (came + 1) [] above (All-nil (λ m. n < m)))
           (omega arith) is.1,
@@ -243,50 +237,58 @@ pub speaker_of : (calls : List ConnectionCall) (n : ℕ) (c : ConversationState)
 speaker_of calls n c None came is = is.1
 speaker_of calls n c (Some next) came is = is.1
 
--- the one that speaks, with more known of what it said
-heard_anew : (calls : List ConnectionCall) (n : ℕ) (c c_then : ConversationState) (came : ℕ)
-    → IsHeard calls n c_then → IsSpeaker calls n c came → IsSpeaker calls n c_then came
-heard_anew calls n c c_then came heard speaker = record {
+-- those that didn't live don't live after a turn of another
+pub turn_past : (calls calls_then : List ConnectionCall) (n : ℕ) (ns : List ℕ)
+    → ((k : ℕ) → k ≢ n → IsUnheard calls calls_then k) → All (λ m. m < n) ns
+    → ArePast calls ns → ArePast calls_then ns
+turn_past calls calls_then n [] others below past = All-nil (λ m. lives calls_then m ≡ false)
+turn_past calls calls_then n (m ∷ ns) others below past =
+    let low = All-head (λ m. m < n) m ns below in
+    let unheard = others m (λ same. omega (arith, low, same)) in
+    All-cons (λ m. lives calls_then m ≡ false) m ns
+    (lives_alike calls calls_then m unheard.bytes unheard.ended
+    ∙ All-head (λ m. lives calls m ≡ false) m ns past)
+    (turn_past calls calls_then n ns others (All-tail (λ m. m < n) m ns below)
+    (All-tail (λ m. lives calls m ≡ false) m ns past))
+
+-- the one that speaks still does after its turn
+unfoldable pub turn_speaker : (calls calls_then : List ConnectionCall) (n : ℕ) (c c_then : ConversationState)
+    (lines : List (List ℕ)) (came : ℕ) → HasTurn n calls calls_then c c_then lines
+    → IsSpeaker calls n c came → IsSpeaker calls_then n c_then came
+turn_speaker calls calls_then n c c_then lines came turn speaker = record {
   earlier = speaker.earlier;
   later = speaker.later;
-  connections = speaker.connections;
+  connections = turn.come ∙ speaker.connections;
   earlier_below = speaker.earlier_below;
-  earlier_past = speaker.earlier_past;
+  earlier_past = turn_past calls calls_then n speaker.earlier turn.others speaker.earlier_below
+      speaker.earlier_past;
   later_above = speaker.later_above;
-  unread = speaker.unread;
-  heard = heard;
+  unread = λ m low.
+      let unheard = turn.others m (λ same. omega (arith, low, same)) in (
+        unheard.bytes ∙ (speaker.unread m low).0,
+        unheard.ended ∙ (speaker.unread m low).1,
+      );
+  heard = (turn.own speaker.heard).heard;
   within = speaker.within;
 }
 
--- its first line is handed in
-line_heard : (calls : List ConnectionCall) (n : ℕ) (c : ConversationState)
-    → has_line c.bytes ≡ true → IsHeard calls n c
-    → IsHeard calls n (record c { bytes = behind_line c.bytes; spoke = true })
-line_heard calls n c has heard =
-    let line = whole_line (first_line c.bytes) in
-    record {
-      before = heard.before ++ line;
-      bytes = heard.bytes ∙ ap (λ (l : List ℕ). heard.before ++ l) (whole_split c.bytes has)
-          ∙ sym (append_assoc heard.before line (behind_line c.bytes));
-      whole = rest_behind heard.before line heard.whole ∙ whole_rest (first_line c.bytes);
-      spoke = line_in_parts heard.before line
-          ∙ or_right (has_line heard.before) (has_line line) (line_in_whole (first_line c.bytes));
-      ended = heard.ended;
-    }
-
--- all else is known as it was
-pub line_true : (calls : List ConnectionCall) (n : ℕ) (c : ConversationState)
-    (waiting : Option ℕ) (came : ℕ) → has_line c.bytes ≡ true
-    → IsTrueOf calls (Some n) c waiting came → IsTrueOf calls (Some n)
-    (record c { bytes = behind_line c.bytes; spoke = true }) waiting came
-line_true calls n c None came has is = (
-  is.0,
-  heard_anew calls n c (record c { bytes = behind_line c.bytes; spoke = true }) came
-      (line_heard calls n c has is.1.heard) is.1,
+-- so all that is known is known after it
+pub turn_true : (calls calls_then : List ConnectionCall) (n : ℕ) (c c_then : ConversationState)
+    (lines : List (List ℕ)) (waiting : Option ℕ) (came : ℕ)
+    → HasTurn n calls calls_then c c_then lines → IsTrueOf calls (Some n) c waiting came
+    → IsTrueOf calls_then (Some n) c_then waiting came
+turn_true calls calls_then n c c_then lines None came turn is = (
+  All-same (λ m. m ≤ came) (connections_in calls_then) (connections_in calls) turn.come is.0,
+  turn_speaker calls calls_then n c c_then lines came turn is.1,
 )
-line_true calls n c (Some next) came has is = (
-  is.0,
-  heard_anew calls n c (record c { bytes = behind_line c.bytes; spoke = true }) came
-      (line_heard calls n c has is.1.heard) is.1,
-  is.2,
+turn_true calls calls_then n c c_then lines (Some next) came turn is = (
+  All-same (λ m. m ≤ came) (connections_in calls_then) (connections_in calls) turn.come is.0,
+  turn_speaker calls calls_then n c c_then lines came turn is.1,
+  record {
+    earlier = is.2.earlier;
+    connections = turn.come ∙ is.2.connections;
+    earlier_below = is.2.earlier_below;
+    behind = is.2.behind;
+    within = is.2.within;
+  },
 )

@@ -1,5 +1,5 @@
 -- The seats of a path, of which one changes.
--- For the path of the operator's port.
+-- For `Path`.
 -- By: induction on the seats before it and after it; each connection has one seat at most.
 use Rattle.std.proofs.Common.{◌≡◌, ℕ, suc, ◌+◌, ◌<◌, ◌++◌, List, [], ◌∷◌}
 use Rattle.std.proofs.Common.{Bool, true, false, if◌then◌else◌, Option, Some, None, length, take}
@@ -10,11 +10,10 @@ use Rattle.std.proofs.lemmas.List.Concat.{flat_map-append}
 use Rattle.trdp_lines.specs.Closings.{IsUnheard}
 use Rattle.trdp_lines.specs.Connections.{ConnectionCall}
 use Rattle.trdp_lines.specs.Conversations.{ConversationState}
-use Rattle.trdp_lines.specs.OperatorPaths.{is_of, left_at_seat, left_in, seat_at}
-use Rattle.trdp_lines.specs.OperatorPaths.{NothingLeft}
+use Rattle.trdp_lines.specs.Seats.{is_of, left_at_seat, left_in, seat_at, seats_of}
 use Rattle.trdp_lines.specs.Paths.{speaks}
 use Rattle.trdp_lines.specs.Said.{Said}
-use Rattle.trdp_lines.specs.Seats.{seats_of, IsHeardIf, AreHeard, IsSilentAt}
+use Rattle.trdp_lines.specs.Seatings.{IsHeardIf, AreHeard}
 use Rattle.trdp_lines.proofs.TurnLemmas.{heard_kept}
 
 -- one seat changes, from the second of these states to the third, with others around it
@@ -138,15 +137,9 @@ heard_both calls (c ∷ front) back before behind =
     (before.0, heard_both calls front back before.1 behind)
 
 -- nothing is left where nothing is left at each place
-silent_all : (n : ℕ) (seats : List ConversationState)
+pub silent_all : (n : ℕ) (seats : List ConversationState)
     → ((k : ℕ) → k < length seats → left_at_seat n (seat_at seats k) ≡ [])
     → left_in n seats ≡ []
 silent_all n [] silent = refl
 silent_all n (c ∷ seats) silent = rw (silent 0 (omega arith)) (silent_all n seats
     (λ k within. silent (suc k) (omega (arith, within))))
-
--- no text is left where none is left at each of four places
-pub nothing_left : (seats : List ConversationState) → length seats ≡ 4
-    → ((k : ℕ) → k < 4 → IsSilentAt seats k) → NothingLeft seats
-nothing_left seats four silent = λ n. silent_all n seats
-    (λ k within. silent k (omega (arith, within, four)) n)

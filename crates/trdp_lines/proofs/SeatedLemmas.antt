@@ -1,15 +1,15 @@
 -- Which connections have a seat, after one of the seats changes.
--- For the path of the operator's port.
+-- For `Path`.
 -- By: how many seats each connection has at the seat that changes, and around it.
 use Rattle.std.proofs.Common.{◌≡◌, ℕ, ◌==◌, ◌+◌, ◌<◌, ◌≤◌, ◌++◌, ◌≢◌, List, ◌∷◌, Bool, true}
 use Rattle.std.proofs.Common.{false, if◌then◌else◌, Option, Some, None, refl, ap, sym, subst}
-use Rattle.std.proofs.Common.{◌∙◌, inl, inr, arith}
+use Rattle.std.proofs.Common.{◌∙◌, inl, inr, arith, IfSome, length, get_or}
 use Rattle.std.proofs.lemmas.Bool.{eq-eqb, eqb-true, cases_lt}
 use Rattle.trdp_lines.specs.Conversations.{ConversationState, conversation_of}
-use Rattle.trdp_lines.specs.OperatorPaths.{free_seat, is_of}
+use Rattle.trdp_lines.specs.Seats.{free_seat, is_of, seats_of}
 use Rattle.trdp_lines.specs.Paths.{speaks}
-use Rattle.trdp_lines.specs.Seats.{AreSeated, seats_of}
-use Rattle.trdp_lines.proofs.SeatLemmas.{Changes, seats_around}
+use Rattle.trdp_lines.specs.Seatings.{AreSeated}
+use Rattle.trdp_lines.proofs.SeatLemmas.{Changes, changes_at, seats_around}
 
 -- a connection that has a seat has no other
 pub record IsAlone (n came : ℕ) (front back : List ConversationState) : Type 0 where
@@ -18,7 +18,7 @@ pub record IsAlone (n came : ℕ) (front back : List ConversationState) : Type 0
   pub within : n ≤ came
 
 -- a seat of this connection is one
-of_seat : (n : ℕ) (c : ConversationState) → c.number ≡ Some n → is_of n c ≡ true
+pub of_seat : (n : ℕ) (c : ConversationState) → c.number ≡ Some n → is_of n c ≡ true
 of_seat n c number = ap (λ (whose : Option ℕ). speaks whose n) number ∙ eq-eqb n n refl
 
 -- one of one seat at most leaves none
@@ -132,3 +132,12 @@ seated_more seats came came_then more seated = record {
   once = seated.once;
   below = λ k above. seated.below k (omega (arith, above, more));
 }
+
+-- a connection that has a seat came
+pub number_low : (seats : List ConversationState) (place : ℕ) (c : ConversationState)
+    (whose : Option ℕ) (came : ℕ) → place < length seats → c ≡ get_or seats place c
+    → c.number ≡ whose → AreSeated seats came → IfSome whose (λ n. n ≤ came)
+number_low seats place c None came within here number seated = tt
+number_low seats place c (Some n) came within here number seated =
+    let changes = changes_at seats place c c within here in
+    (alone seats changes.front changes.back c n came changes.was number seated).within

@@ -1,17 +1,16 @@
 -- What a connection is asked in its turn, one call after another.
--- For `hear` and the path of the operator's port.
+-- For `Path`.
 -- By: what each call adds to the bytes of the connection, and to those of another.
-use Rattle.std.proofs.Common.{◌≡◌, ℕ, ◌==◌, ◌++◌, List, [], ◌∷◌, true, false, map, take, refl}
-use Rattle.std.proofs.Common.{ap, sym, ◌∙◌, append_assoc, Option, Some, None, IfSome, IfNone}
-use Rattle.std.proofs.lemmas.Bool.{ne_eqb, or_from}
+use Rattle.std.proofs.Common.{◌≡◌, ℕ, ◌==◌, ◌++◌, List, [], ◌∷◌, true, false, map, refl}
+use Rattle.std.proofs.Common.{ap, sym, ◌∙◌, append_assoc, Option, Some, None}
+use Rattle.std.proofs.lemmas.Bool.{ne_eqb}
 use Rattle.std.proofs.lemmas.List.{append-nil}
-use Rattle.std.proofs.lemmas.List.Folds.{list_any-append}
-use Rattle.trdp_lines.specs.Closings.{IsUnheard, closes, was_closed}
-use Rattle.trdp_lines.specs.Connections.{ConnectionCall, Reads, Writes, bytes_of}
+use Rattle.trdp_lines.specs.Closings.{IsUnheard}
+use Rattle.trdp_lines.specs.Connections.{ConnectionCall, Reads, Writes, reading_bytes}
 use Rattle.trdp_lines.specs.Conversations.{ConversationState, HasRead, HasWritten}
 use Rattle.trdp_lines.specs.Lines.{has_line, first_line, behind_line, lines_in}
-use Rattle.trdp_lines.specs.Paths.{IsHeard}
-use Rattle.trdp_lines.specs.Seats.{HandsInIf, HasTurn, HasTurnIfTold, StaysHeard}
+use Rattle.trdp_lines.specs.Paths.{IsWhatWasRead}
+use Rattle.trdp_lines.specs.Turns.{HasTurn, HasTurnIfTold, StaysHeard}
 use Rattle.trdp_lines.proofs.CallLemmas.{AreUnheard, quiet_come, read_bytes}
 use Rattle.trdp_lines.proofs.CallLemmas.{read_bytes_other, read_come, read_end, read_end_other}
 use Rattle.trdp_lines.proofs.CallLemmas.{unheard_bytes, unheard_end, writes_quiet}
@@ -29,7 +28,7 @@ unheard_by calls calls_then more quiet told k = rw told (record {
 -- what is known of a connection that isn't read from stays known, if what it wrote alone changed
 pub heard_kept : (calls calls_then : List ConnectionCall) (n : ℕ) (c c_then : ConversationState)
     → IsUnheard calls calls_then n → c_then.bytes ≡ c.bytes → c_then.spoke ≡ c.spoke
-    → c_then.ended ≡ c.ended → (was : IsHeard calls n c)
+    → c_then.ended ≡ c.ended → (was : IsWhatWasRead calls n c)
     → StaysHeard n calls calls_then c c_then [] was
 heard_kept calls calls_then n c c_then unheard bytes spoke ended was = record {
   heard = record {
@@ -95,7 +94,7 @@ read_turn n calls calls_then old new read =
         heard = record {
           before = was.before;
           bytes = rw (read.told, read_bytes calls n reading, was.bytes, read.read)
-              (append_assoc was.before old.bytes (bytes_of reading));
+              (append_assoc was.before old.bytes (reading_bytes reading));
           whole = was.whole;
           spoke = rw read.read was.spoke;
           ended = rw (read.told, read_end calls n reading, was.ended, read.read) refl;
@@ -141,62 +140,3 @@ still_turn n (Some calls) old new is = record {
   others = λ k other. record { bytes = refl; ended = refl };
   own = rw is (λ was. record { heard = was; more = sym (append-nil (lines_in was.before)) });
 }
-
--- a turn after one where nothing is handed in, by calls that are reported
-next_told : (n : ℕ) (one two three : List ConnectionCall) (a b c : ConversationState)
-    (lines : List (List ℕ)) → HasTurn n one two a b [] → HasTurn n two three b c lines
-    → HasTurn n one three a c lines
-next_told n one two three a b c lines first second = record {
-  more = first.more ++ second.more;
-  told = second.told ∙ ap (λ (calls : List ConnectionCall). calls ++ second.more) first.told
-      ∙ append_assoc one first.more second.more;
-  come = second.come ∙ first.come;
-  unclosed = λ k. list_any-append (closes k) first.more second.more
-      ∙ or_from (was_closed k first.more) (was_closed k second.more) (first.unclosed k)
-      (second.unclosed k);
-  others = λ k other. record {
-    bytes = (second.others k other).bytes ∙ (first.others k other).bytes;
-    ended = (second.others k other).ended ∙ (first.others k other).ended;
-  };
-  own = λ was.
-      let mid = first.own was in
-      let last = second.own mid.heard in
-      record {
-        heard = last.heard;
-        more = last.more ∙ ap (λ (front : List (List ℕ)). front ++ lines)
-            (mid.more ∙ append-nil (lines_in was.before));
-      };
-}
-
--- a turn after one where nothing is handed in
-pub turn_next : (n : ℕ) (one two three : Option (List ConnectionCall))
-    (a b c : ConversationState) (lines : List (List ℕ)) → HasTurnIfTold n one two a b []
-    → HasTurnIfTold n two three b c lines → HasTurnIfTold n one three a c lines
-turn_next n None None None a b c lines first second = tt
-turn_next n None None (Some three) a b c lines first second = absurd second
-turn_next n None (Some two) three a b c lines first second = absurd first
-turn_next n (Some one) None None a b c lines first second = tt
-turn_next n (Some one) None (Some three) a b c lines first second = absurd second
-turn_next n (Some one) (Some two) None a b c lines first second = tt
-turn_next n (Some one) (Some two) (Some three) a b c lines first second =
-    next_told n one two three a b c lines first second
-
--- the next line is handed in after a turn where none is, if one is there
-pub line_if : (n : ℕ) (calls calls_then : Option (List ConnectionCall))
-    (old mid new : ConversationState) (room : ℕ) (found : Option ℕ) (room_then : List ℕ)
-    → HasTurnIfTold n calls calls_then old mid []
-    → IfSome found (λ count. has_line mid.bytes ≡ true)
-    → IfSome found (λ count. take count room_then ≡ take room (first_line mid.bytes))
-    → IfSome found (λ count. new ≡ record mid { bytes = behind_line mid.bytes; spoke = true })
-    → IfNone found (new ≡ mid)
-    → HandsInIf n calls calls_then old new room found room_then
-line_if n calls calls_then old mid new room None room_then turn has line rest kept =
-    turn_next n calls calls_then calls_then old mid new [] turn
-    (still_turn n calls_then mid new kept)
-line_if n calls calls_then old mid new room (Some count) room_then turn has line rest kept =
-    record {
-      line = first_line mid.bytes;
-      turn = turn_next n calls calls_then calls_then old mid new (first_line mid.bytes ∷ [])
-          turn (line_turn n calls_then mid new has rest);
-      bytes = line;
-    }

@@ -8,13 +8,15 @@ use Rattle.std.proofs.Common.{append_assoc}
 use Rattle.std.specs.List.{flat_map}
 use Rattle.std.proofs.lemmas.List.{map-append}
 use Rattle.std.proofs.lemmas.List.Concat.{flat_map-append}
-use Rattle.trdp_lines.specs.Connections.{ConnectionCall, TellsMore, Writes}
+use Rattle.trdp_base.specs.Reported.{TellsMore}
+use Rattle.trdp_lines.specs.Connections.{ConnectionCall, Writes}
 use Rattle.trdp_lines.specs.Conversations.{ConversationState, HasWritten, bytes_taken}
 use Rattle.trdp_lines.specs.Outgoings.{OutgoingState, can_tell, lost_line, lost_told, takes_text}
 use Rattle.trdp_lines.specs.Outgoings.{with_text}
-use Rattle.trdp_lines.specs.OutgoingRuns.{OutgoingStep, after_step, after_steps, taken, taken_in}
+use Rattle.trdp_lines.specs.OutgoingRuns.{OutgoingStep, after_step, after_steps, all_taken}
+use Rattle.trdp_lines.specs.OutgoingRuns.{taken_in_step}
 use Rattle.trdp_lines.specs.OutgoingRuns.{texts_in, texts_of}
-use Rattle.trdp_lines.proofs.AskingLemmas.{told_next}
+use Rattle.trdp_lines.proofs.BetweenLemmas.{told_next}
 use Rattle.trdp_lines.proofs.OutgoingLemmas.{text_is, told_is}
 
 after_both : (state : OutgoingState) (first second : List OutgoingStep)
@@ -23,12 +25,13 @@ after_both state [] second = refl
 after_both state (step ∷ first) second = after_both (after_step state step) first second
 
 taken_both : (state : OutgoingState) (first second : List OutgoingStep)
-    → taken state (first ++ second) ≡ taken state first ++ taken (after_steps state first) second
+    → all_taken state (first ++ second) ≡ all_taken state first
+    ++ all_taken (after_steps state first) second
 taken_both state [] second = refl
 taken_both state (step ∷ first) second =
-    ap (λ l. taken_in state step ++ l) (taken_both (after_step state step) first second)
-    ∙ sym (append_assoc (taken_in state step) (taken (after_step state step) first)
-    (taken (after_steps (after_step state step) first) second))
+    ap (λ l. taken_in_step state step ++ l) (taken_both (after_step state step) first second)
+    ∙ sym (append_assoc (taken_in_step state step) (all_taken (after_step state step) first)
+    (all_taken (after_steps (after_step state step) first) second))
 
 -- where two lists have nothing the first has nothing
 nil_front : {X : Type 0} (xs ys : List X) → xs ++ ys ≡ [] → xs ≡ []
@@ -88,8 +91,8 @@ written_both n a b c one two three first second = record {
       first.told second.told);
   took = flat_map-append bytes_taken first.writings second.writings
       ∙ ap (λ (l : List ℕ). l ++ flat_map bytes_taken second.writings) first.took
-      ∙ ap (λ l. taken a.outgoing first.steps ++ l) (second.took
-      ∙ ap (λ (s : ConversationState). taken s.outgoing second.steps) first.written)
+      ∙ ap (λ l. all_taken a.outgoing first.steps ++ l) (second.took
+      ∙ ap (λ (s : ConversationState). all_taken s.outgoing second.steps) first.written)
       ∙ sym (taken_both a.outgoing first.steps second.steps);
   written = second.written
       ∙ ap (λ (s : ConversationState). record s { outgoing = after_steps s.outgoing second.steps })

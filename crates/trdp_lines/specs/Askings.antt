@@ -1,16 +1,18 @@
 -- What a take that finds nothing has asked of the connections at a path.
 use Rattle.std.specs.Prelude.{◌≡◌, ℕ, ◌+◌, ◌<◌, ◌≤◌, ◌==◌, ◌≢◌, ◌⊎◌, Bool, true, false, List, []}
-use Rattle.std.specs.Prelude.{Option, Some, None, Result, Ok, Err}
+use Rattle.std.specs.Prelude.{Option, Some, None, Result, Ok, Err, is_some}
 use Rattle.std.specs.List.{list_any}
 use Rattle.trdp_lines.specs.declared.connections.Accepted.{Accepted}
 use Rattle.trdp_lines.specs.declared.connections.Accepted.TheVariants.{Came, Nothing, Failed}
 use Rattle.trdp_lines.specs.declared.path_fault.AcceptFault.{AcceptFault}
+use Rattle.trdp_lines.specs.declared.rule.Rule.{Rule}
+use Rattle.trdp_lines.specs.declared.rule.Rule.TheVariants.{Application, Operators}
 use Rattle.trdp_lines.specs.Closings.{IsGoing, was_closed}
 use Rattle.trdp_lines.specs.Connections.{ConnectionCall, Accepts, Reads, Writes, Closes}
-use Rattle.trdp_lines.specs.Connections.{TellsMore}
-use Rattle.trdp_lines.specs.Conversations.{ConversationState, is_done}
-use Rattle.trdp_lines.specs.OperatorPaths.{has_seat, seat_at}
-use Rattle.trdp_lines.specs.Paths.{last_number}
+use Rattle.trdp_base.specs.Reported.{TellsMore}
+use Rattle.trdp_lines.specs.Conversations.{ConversationState}
+use Rattle.trdp_lines.specs.Paths.{IsReadyIf, last_connection_number}
+use Rattle.trdp_lines.specs.Seats.{PathState, has_seat, seat_at}
 
 -- a call asks for the next connection, under this number
 abbrev pub asks_for : ℕ → ConnectionCall → Bool
@@ -59,8 +61,8 @@ abbrev pub was_written : ℕ → List ConnectionCall → Bool
 was_written n calls = list_any (writes_to n) calls
 
 -- among them the system refused the next connection
-abbrev pub has_failed : List ConnectionCall → Bool
-has_failed calls = list_any fails calls
+abbrev pub accept_failed : List ConnectionCall → Bool
+accept_failed calls = list_any fails calls
 
 -- where something waits for a connection, it was written to by these calls
 abbrev pub IsTried : ConversationState → List ConnectionCall → Type 0
@@ -73,12 +75,12 @@ pub record TriesOne (calls calls_then : Option (List ConnectionCall)) (c : Conve
   pub told : TellsMore calls calls_then more
   pub tried : IsTried c more
 
--- the same of all four that may have these seats
-pub record TriesAll (calls calls_then : Option (List ConnectionCall))
+-- the same of all that may have these seats
+pub record TriesAll (most : ℕ) (calls calls_then : Option (List ConnectionCall))
     (seats : List ConversationState) : Type 0 where
   pub more : List ConnectionCall
   pub told : TellsMore calls calls_then more
-  pub tried : (place : ℕ) → place < 4 → IsTried (seat_at seats place) more
+  pub tried : (place : ℕ) → place < most → IsTried (seat_at seats place) more
 
 -- a take found nothing: this holds, of whether it answered that the system refuses a connection
 abbrev pub IfNothing : Result (Option (ℕ × ℕ)) AcceptFault → (Bool → Type 0) → Type 0
@@ -86,114 +88,95 @@ IfNothing (Ok None) P = P false
 IfNothing (Ok (Some found)) P = Unit {0}
 IfNothing (Err fault) P = P true
 
--- Between these calls the next connection was asked for, unless the last number was given; each
--- that has a seat then was read from, and is not over; and the system refused a connection, or
--- didn't.
-pub record AsksSeats (calls calls_then : Option (List ConnectionCall)) (came : ℕ)
-    (seats_then : List ConversationState) (fault : Bool) : Type 0 where
-  pub more : List ConnectionCall
-  pub told : TellsMore calls calls_then more
-  pub accepts : came < last_number → was_asked_for (came + 1) more ≡ true
-  pub reads : (n : ℕ) → has_seat n seats_then ≡ true → was_read n more ≡ true
-  pub going : (n : ℕ) → has_seat n seats_then ≡ true → IsGoing n calls_then
-  pub failed : has_failed more ≡ fault
-
--- by these calls one was read from and closed, and another speaks in its place
+-- by these calls one was read from and closed, and another has its seat
 pub record WasReplaced (calls : List ConnectionCall) : Type 0 where
   pub whose : ℕ
   pub read : was_read whose calls ≡ true
   pub closed : was_closed whose calls ≡ true
 
--- by these calls the connection of this number was read from, or the one in whose place it speaks
-abbrev pub IsTurnOf : ℕ → List ConnectionCall → Type 0
-IsTurnOf n calls = (was_read n calls ≡ true) ⊎ WasReplaced calls
+-- by these calls an operator was read from; an application, or the one in whose place it speaks
+abbrev pub IsTurnOf : Rule → ℕ → List ConnectionCall → Type 0
+IsTurnOf Application n calls = (was_read n calls ≡ true) ⊎ WasReplaced calls
+IsTurnOf Operators n calls = was_read n calls ≡ true
 
--- Between these calls the next connection was asked for, unless one waited or the last number was
--- given. The one that speaks then was read from, or the one in whose place it speaks; and it is not
--- over. The system refused a connection, or didn't. It is known only where the calls are reported.
-pub record AsksSpeaker (calls calls_then : Option (List ConnectionCall)) (waiting : Option ℕ)
-    (came : ℕ) (speaking_then : Option ℕ) (fault : Bool) : Type 0 where
+-- another connection may be asked for, where an application is followed by this one, or none
+abbrev pub MayCome : Rule → (waiting : Option ℕ) → Type 0
+MayCome Application waiting = waiting ≡ None
+MayCome Operators waiting = Unit {0}
+
+-- Between these calls the next connection was asked for, if it may come, and unless the last number
+-- was given. Each that has a seat then had its turn, and is not over. The system refused a
+-- connection, or didn't.
+pub record AsksAll {C : Type 0} (rule : Rule) (calls_of : C → Option (List ConnectionCall))
+    (path path_then : PathState C) (fault : Bool) : Type 0 where
+  pub more : List ConnectionCall
+  pub told : TellsMore (calls_of path.connections) (calls_of path_then.connections) more
+  pub accepts : MayCome rule path.waiting → path.came < last_connection_number
+      → was_asked_for (path.came + 1) more ≡ true
+  pub reads : (n : ℕ) → has_seat n path_then.seats ≡ true → IsTurnOf rule n more
+  pub going : (n : ℕ) → has_seat n path_then.seats ≡ true
+      → IsGoing n (calls_of path_then.connections)
+  pub failed : accept_failed more ≡ fault
+
+-- between these calls each that has a seat then was read from
+pub record ReadsAll (calls calls_then : Option (List ConnectionCall))
+    (seats_then : List ConversationState) : Type 0 where
   pub more : List ConnectionCall
   pub told : TellsMore calls calls_then more
-  pub accepts : waiting ≡ None → came < last_number → was_asked_for (came + 1) more ≡ true
-  pub reads : (n : ℕ) → speaking_then ≡ Some n → IsTurnOf n more
-  pub going : (n : ℕ) → speaking_then ≡ Some n → IsGoing n calls_then
-  pub failed : has_failed more ≡ fault
+  pub reads : (n : ℕ) → has_seat n seats_then ≡ true → was_read n more ≡ true
 
 -- between these calls the system refused no connection
 pub record NoneFails (calls calls_then : Option (List ConnectionCall)) : Type 0 where
   pub more : List ConnectionCall
   pub told : TellsMore calls calls_then more
-  pub unfailed : has_failed more ≡ false
+  pub unfailed : accept_failed more ≡ false
 
 -- the next connection was asked for, if it may be, and refused or not
 pub record AsksNext (calls calls_then : Option (List ConnectionCall)) (may : Type 0) (came : ℕ)
     (fault : Bool) : Type 0 where
   pub more : List ConnectionCall
   pub told : TellsMore calls calls_then more
-  pub accepts : may → came < last_number → was_asked_for (came + 1) more ≡ true
-  pub failed : has_failed more ≡ fault
+  pub accepts : may → came < last_connection_number → was_asked_for (came + 1) more ≡ true
+  pub failed : accept_failed more ≡ fault
 
--- a connection of this number was read from, unless it is done then, and what waited for it was
--- tried to be written
-pub record AsksOne (n : ℕ) (calls calls_then : Option (List ConnectionCall))
-    (c c_then : ConversationState) : Type 0 where
-  pub more : List ConnectionCall
-  pub told : TellsMore calls calls_then more
-  pub reads : is_done c_then ≡ false → was_read n more ≡ true
-  pub tried : c.outgoing.waiting ≢ [] → was_written n more ≡ true
-  pub unfailed : has_failed more ≡ false
+-- the connection of this number was read from; or, if one waited, the one in whose place it is
+abbrev pub HadTurn : (waiting : Option ℕ) → ℕ → List ConnectionCall → Type 0
+HadTurn waiting n calls =
+    (was_read n calls ≡ true) ⊎ ((is_some waiting ≡ true) × WasReplaced calls)
 
--- each that has a seat then had it before
-abbrev pub Stay : (seats seats_then : List ConversationState) → Type 0
-Stay seats seats_then = (k n : ℕ) → (seat_at seats_then k).number ≡ Some n
-    → (seat_at seats k).number ≡ Some n
-
--- the seats from one place to another were asked, and no other: each that has one of them then was
--- read from, and isn't done; what waited for one that had one of them before was tried to be written
+-- the seats from one place to another were asked, and no other: each that has one of them then had
+-- its turn, and may be read from again
 pub record AsksPlaces (first «end» : ℕ) (calls calls_then : Option (List ConnectionCall))
-    (seats seats_then : List ConversationState) : Type 0 where
+    (seats seats_then : List ConversationState) (waiting : Option ℕ) : Type 0 where
   pub more : List ConnectionCall
   pub told : TellsMore calls calls_then more
-  pub stay : Stay seats seats_then
   pub reads : (k n : ℕ) → first ≤ k → k < «end» → (seat_at seats_then k).number ≡ Some n
-      → was_read n more ≡ true
-  pub going : (k n : ℕ) → first ≤ k → k < «end» → (seat_at seats_then k).number ≡ Some n
-      → is_done (seat_at seats_then k) ≡ false
-  pub tried : (k : ℕ) → first ≤ k → k < «end» → IsTried (seat_at seats k) more
+      → HadTurn waiting n more
+  pub ready : (k : ℕ) → first ≤ k → k < «end»
+      → IsReadyIf (seat_at seats_then k).number (seat_at seats_then k)
   pub others : (k : ℕ) → ((k < first) ⊎ («end» ≤ k)) → seat_at seats_then k ≡ seat_at seats k
-  pub unfailed : has_failed more ≡ false
+  pub unfailed : accept_failed more ≡ false
 
--- the one that spoke was closed
-pub record WasClosed (speaking : Option ℕ) (calls : List ConnectionCall) : Type 0 where
-  pub whose : ℕ
-  pub spoke : speaking ≡ Some whose
-  pub closed : was_closed whose calls ≡ true
+-- the one that had the seat was closed
+pub record WasClosed (whose : Option ℕ) (calls : List ConnectionCall) : Type 0 where
+  pub number : ℕ
+  pub had : whose ≡ Some number
+  pub closed : was_closed number calls ≡ true
 
--- the one that speaks then spoke before, or speaks in the place of one that was closed
-pub record TakesTurn (calls calls_then : Option (List ConnectionCall))
-    (speaking speaking_then : Option ℕ) : Type 0 where
+-- the one that has the seat then had it before; or, if one waited, has it in the place of one that
+-- was closed
+pub record TakesSeat (calls calls_then : Option (List ConnectionCall)) (waiting : Option ℕ)
+    (whose whose_then : Option ℕ) : Type 0 where
   pub more : List ConnectionCall
   pub told : TellsMore calls calls_then more
-  pub follows : (n : ℕ) → speaking_then ≡ Some n
-      → (speaking ≡ Some n) ⊎ WasClosed speaking more
-  pub unfailed : has_failed more ≡ false
+  pub follows : (n : ℕ) → whose_then ≡ Some n
+      → (whose ≡ Some n) ⊎ ((is_some waiting ≡ true) × WasClosed whose more)
+  pub unfailed : accept_failed more ≡ false
 
--- the one that speaks then was read from, or the one in whose place it speaks
-pub record Listens (calls calls_then : Option (List ConnectionCall)) (speaking_then : Option ℕ)
-    : Type 0 where
+-- the one that has the seat then had its turn
+pub record Listens (calls calls_then : Option (List ConnectionCall)) (waiting : Option ℕ)
+    (whose_then : Option ℕ) : Type 0 where
   pub more : List ConnectionCall
   pub told : TellsMore calls calls_then more
-  pub reads : (n : ℕ) → speaking_then ≡ Some n → IsTurnOf n more
-  pub unfailed : has_failed more ≡ false
-
--- between these calls the one that speaks then was read from
-pub record ReadsSpeaker (calls calls_then : Option (List ConnectionCall))
-    (speaking_then : Option ℕ) : Type 0 where
-  pub more : List ConnectionCall
-  pub told : TellsMore calls calls_then more
-  pub reads : (n : ℕ) → speaking_then ≡ Some n → was_read n more ≡ true
-
--- the one that speaks then spoke before
-abbrev pub StillSpeaks : (speaking speaking_then : Option ℕ) → Type 0
-StillSpeaks speaking speaking_then = (n : ℕ) → speaking_then ≡ Some n → speaking ≡ Some n
+  pub reads : (n : ℕ) → whose_then ≡ Some n → HadTurn waiting n more
+  pub unfailed : accept_failed more ≡ false

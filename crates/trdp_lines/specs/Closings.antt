@@ -3,8 +3,8 @@ use Rattle.std.specs.Prelude.{◌≡◌, ℕ, ◌<◌, ◌==◌, ◌++◌, Bool,
 use Rattle.std.specs.Prelude.{Option, Some, None}
 use Rattle.std.specs.List.{list_any}
 use Rattle.trdp_lines.specs.Connections.{ConnectionCall, Accepts, Reads, Writes, Closes}
-use Rattle.trdp_lines.specs.Connections.{NoBytes, Reading}
-use Rattle.trdp_lines.specs.Said.{bytes_from, connections_in, has_ended, is_over}
+use Rattle.trdp_lines.specs.Connections.{IfTold, NoBytes, Reading}
+use Rattle.trdp_lines.specs.Said.{bytes_from, connections_in, connection_ended, is_over}
 
 -- a call ends the connection of this number
 abbrev pub closes : ℕ → ConnectionCall → Bool
@@ -38,13 +38,12 @@ pub record AreOpen (calls : List ConnectionCall) (has : ℕ → Bool) (came : �
 
 -- the same of calls that may not be reported
 abbrev pub AreOpenIfTold : Option (List ConnectionCall) → (has : ℕ → Bool) → (came : ℕ) → Type 0
-AreOpenIfTold None has came = Unit {0}
-AreOpenIfTold (Some calls) has came = AreOpen calls has came
+AreOpenIfTold calls has came = IfTold (λ told. AreOpen told has came) calls
 
 -- of a connection nothing was read between these calls
 pub record IsUnheard (calls calls_then : List ConnectionCall) (n : ℕ) : Type 0 where
   pub bytes : bytes_from n calls_then ≡ bytes_from n calls
-  pub ended : has_ended n calls_then ≡ has_ended n calls
+  pub ended : connection_ended n calls_then ≡ connection_ended n calls
 
 -- the last of these calls read from a connection, and no byte was there: it goes on, and is silent
 pub record FoundNothing (n : ℕ) (calls : List ConnectionCall) : Type 0 where

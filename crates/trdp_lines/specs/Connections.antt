@@ -1,5 +1,5 @@
 -- What the connections at a path report of what was asked of them.
-use Rattle.std.specs.Prelude.{◌≡◌, ℕ, ◌<◌, ◌≤◌, Bool, true, false, List, [], ◌++◌, take, Option}
+use Rattle.std.specs.Prelude.{ℕ, ◌<◌, ◌≤◌, Bool, true, false, List, [], take, Option}
 use Rattle.std.specs.Prelude.{Some, None}
 use Rattle.trdp_lines.specs.declared.connections.Accepted.{Accepted}
 use Rattle.trdp_lines.specs.declared.connections.Came.{Came}
@@ -10,15 +10,15 @@ use Rattle.trdp_lines.specs.declared.connections.Went.TheVariants.{Nothing as To
 use Rattle.trdp_lines.specs.declared.connections.Went.TheVariants.{Ended as TookNoMore}
 
 -- what a read answered: these bytes, that none was there, or that no more come
-pub data Arrived : Type 0 where
-  SomeBytes : (bytes : List ℕ) → Arrived
-  NoBytes : Arrived
-  NoMore : Arrived
+pub data ReadAnswer : Type 0 where
+  SomeBytes : (bytes : List ℕ) → ReadAnswer
+  NoBytes : ReadAnswer
+  NoMore : ReadAnswer
 
 -- one read: how many bytes it had room for, and what it answered
 pub record Reading : Type 0 where
   pub room : ℕ
-  pub arrived : Arrived
+  pub arrived : ReadAnswer
 
 -- one write: the bytes that it was asked to take, and what it answered, with how many it took
 pub record Writing : Type 0 where
@@ -40,10 +40,10 @@ came_count Nothing = 0
 came_count Ended = 0
 
 -- bytes came, or the end
-abbrev pub has_come : Came → Bool
-has_come (Bytes n) = true
-has_come Nothing = false
-has_come Ended = true
+abbrev pub came_or_ended : Came → Bool
+came_or_ended (Bytes n) = true
+came_or_ended Nothing = false
+came_or_ended Ended = true
 
 -- how many bytes went
 abbrev pub went_count : Went → ℕ
@@ -64,31 +64,37 @@ WentWithin most TookNone = Unit {0}
 WentWithin most TookNoMore = Unit {0}
 
 -- what a read answered, where what came is at the front of these bytes
-abbrev pub arrived_in : Came → List ℕ → Arrived
-arrived_in (Bytes n) bytes = SomeBytes (take n bytes)
-arrived_in Nothing bytes = NoBytes
-arrived_in Ended bytes = NoMore
+abbrev pub read_answer_in : Came → List ℕ → ReadAnswer
+read_answer_in (Bytes n) bytes = SomeBytes (take n bytes)
+read_answer_in Nothing bytes = NoBytes
+read_answer_in Ended bytes = NoMore
 
 -- a read with room for that many bytes, where what came is at the front of these
 abbrev pub reading_of : Came → ℕ → List ℕ → Reading
-reading_of came room bytes = record { room = room; arrived = arrived_in came bytes }
+reading_of came room bytes = record { room = room; arrived = read_answer_in came bytes }
 
 -- the bytes that came
-abbrev pub bytes_arrived : Arrived → List ℕ
+abbrev pub bytes_arrived : ReadAnswer → List ℕ
 bytes_arrived (SomeBytes bytes) = bytes
 bytes_arrived NoBytes = []
 bytes_arrived NoMore = []
 
 -- the bytes of a reading
-abbrev pub bytes_of : Reading → List ℕ
-bytes_of reading = bytes_arrived reading.arrived
+abbrev pub reading_bytes : Reading → List ℕ
+reading_bytes reading = bytes_arrived reading.arrived
 
 -- the write that was asked to take these bytes, and answered this
 abbrev pub writing_of : List ℕ → Went → Writing
 writing_of bytes went = record { bytes = bytes; went = went }
 
--- a list that is reported afterwards was reported before, and these were added to it
-abbrev pub TellsMore : {X : Type 0} → Option (List X) → Option (List X) → List X → Type 0
-TellsMore old None more = Unit {0}
-TellsMore None (Some new) more = ⊥
-TellsMore (Some old) (Some new) more = new ≡ old ++ more
+-- this holds of calls, if they are reported
+abbrev pub IfTold : (List ConnectionCall → Type 0) → Option (List ConnectionCall) → Type 0
+IfTold P None = Unit {0}
+IfTold P (Some calls) = P calls
+
+-- this holds of calls that are reported afterwards, which were reported before
+abbrev pub Between : (List ConnectionCall → List ConnectionCall → Type 0)
+    → (calls calls_then : Option (List ConnectionCall)) → Type 0
+Between R calls None = Unit {0}
+Between R None (Some calls_then) = ⊥
+Between R (Some calls) (Some calls_then) = R calls calls_then

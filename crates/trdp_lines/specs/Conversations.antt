@@ -3,10 +3,11 @@ use Rattle.std.specs.Prelude.{◌≡◌, ℕ, ◌||◌, ◌++◌, Bool, false, L
 use Rattle.std.specs.Prelude.{Option, Some, None}
 use Rattle.std.specs.List.{flat_map}
 use Rattle.trdp_lines.specs.Connections.{ConnectionCall, Reading, Reads, Writing, Writes}
-use Rattle.trdp_lines.specs.Connections.{TellsMore, bytes_of, went_count}
+use Rattle.trdp_base.specs.Reported.{TellsMore}
+use Rattle.trdp_lines.specs.Connections.{reading_bytes, went_count}
 use Rattle.trdp_lines.specs.Lines.{has_line, lines_in}
 use Rattle.trdp_lines.specs.Outgoings.{OutgoingState, no_outgoing}
-use Rattle.trdp_lines.specs.OutgoingRuns.{OutgoingStep, after_steps, taken, texts_of}
+use Rattle.trdp_lines.specs.OutgoingRuns.{OutgoingStep, after_steps, all_taken, texts_of}
 use Rattle.trdp_lines.specs.Said.{Said, end_if, is_end, is_too_long, said_by}
 
 -- a connection, or none; what came from it and isn't handed in, whether a line of it was, whether
@@ -39,8 +40,8 @@ left_by (Some n) c =
     said_by n (lines_in c.bytes) ++ end_if n (is_done c) (c.spoke || has_line c.bytes)
 
 -- what is left to hand in where an end counts
-abbrev pub left_of : ConversationState → List Said
-left_of c = left_by c.number c
+abbrev pub left_to_hand_in : ConversationState → List Said
+left_to_hand_in c = left_by c.number c
 
 -- the same where it doesn't: whole lines alone
 abbrev pub lines_left_by : Option ℕ → ConversationState → List Said
@@ -53,7 +54,7 @@ pub record HasRead (number : ℕ) (old new : ConversationState)
   pub reading : Reading
   pub told : TellsMore calls calls_then (Reads number reading ∷ [])
   pub read : new ≡ record old {
-    bytes = old.bytes ++ bytes_of reading;
+    bytes = old.bytes ++ reading_bytes reading;
     ended = old.ended || is_end reading.arrived;
   }
 
@@ -70,6 +71,6 @@ pub record HasWritten (number : ℕ) (texts : List (List ℕ)) (old new : Conver
   pub writings : List Writing
   pub texts_are : texts_of steps ≡ texts
   pub told : TellsMore calls calls_then (map (Writes number) writings)
-  pub took : flat_map bytes_taken writings ≡ taken old.outgoing steps
+  pub took : flat_map bytes_taken writings ≡ all_taken old.outgoing steps
   pub written : new ≡ record old { outgoing = after_steps old.outgoing steps }
   pub tried : writings ≡ [] → (old.outgoing.waiting ≡ []) × (new.outgoing.waiting ≡ [])

@@ -3,7 +3,8 @@ use Rattle.std.specs.Prelude.{◌≡◌, ℕ, ◌-◌, ◌+◌, ◌<◌, ◌≤�
 use Rattle.std.specs.Prelude.{false}
 use Rattle.trdp_lines.specs.declared.connections.Came.{Came}
 use Rattle.trdp_lines.specs.Connections.{Reading, reading_of}
-use Rattle.trdp_lines.specs.Lines.{line_limit, has_line, first_line, behind_line}
+use Rattle.trdp_base.specs.Limits.{line_limit}
+use Rattle.trdp_lines.specs.Lines.{has_line, first_line, behind_line}
 
 -- room for one line with its end, in bytes
 abbrev pub intake_room : ℕ

@@ -9,8 +9,10 @@ pub mod Closings
 pub mod Conversations
 pub mod Paths
 pub mod Comings
-pub mod OperatorPaths
 pub mod Seats
-pub mod ControlPaths
+pub mod Fates
 pub mod Askings
 pub mod Hearings
+pub mod Seatings
+pub mod Turns
+pub mod Steps

@@ -6,10 +6,6 @@ use Rattle.std.specs.Prelude.{◌≡◌, ◌++◌, ℕ, ◌==◌, ◌||◌, Bool
 abbrev pub line_end : ℕ
 line_end = 10
 
--- the most bytes of a line with its end
-abbrev pub line_limit : ℕ
-line_limit = 140000
-
 -- the end of a line is there
 abbrev pub has_line : List ℕ → Bool
 has_line [] = false

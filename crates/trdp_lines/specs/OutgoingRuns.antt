@@ -27,19 +27,19 @@ after_steps state [] = state
 after_steps state (step ∷ steps) = after_steps (after_step state step) steps
 
 -- what the other side takes in a step
-abbrev pub taken_in : OutgoingState → OutgoingStep → List ℕ
-taken_in state (Pushed text) = []
-taken_in state Told = []
-taken_in state (Took n) = take n state.waiting
+abbrev pub taken_in_step : OutgoingState → OutgoingStep → List ℕ
+taken_in_step state (Pushed text) = []
+taken_in_step state Told = []
+taken_in_step state (Took n) = take n state.waiting
 
 -- all that the other side takes, in order
-abbrev pub taken : OutgoingState → List OutgoingStep → List ℕ
-taken state [] = []
-taken state (step ∷ steps) = taken_in state step ++ taken (after_step state step) steps
+abbrev pub all_taken : OutgoingState → List OutgoingStep → List ℕ
+all_taken state [] = []
+all_taken state (step ∷ steps) = taken_in_step state step ++ all_taken (after_step state step) steps
 
 -- all that goes out in these steps, and what waits after them
 abbrev pub gone_and_waiting : OutgoingState → List OutgoingStep → List ℕ
-gone_and_waiting state steps = taken state steps ++ (after_steps state steps).waiting
+gone_and_waiting state steps = all_taken state steps ++ (after_steps state steps).waiting
 
 abbrev pub texts_in : OutgoingStep → List (List ℕ)
 texts_in (Pushed text) = text ∷ []

@@ -1,6 +1,7 @@
 -- What waits to go out, and how many texts found no room.
 use Rattle.std.specs.Prelude.{ℕ, ◌≤◌, ◌+◌, ◌-◌, ◌^◌, ◌==◌, ◌&&◌, ◌++◌, List, [], length}
 use Rattle.std.specs.Prelude.{nat_lt, nat_le, Bool, if◌then◌else◌, codes, min}
+use Rattle.trdp_base.specs.Limits.{line_limit}
 use Rattle.trdp_base.specs.NumberText.{text_of_number}
 
 -- the bytes that the other side hasn't taken, and how many texts were dropped since the latest
@@ -13,9 +14,9 @@ pub record OutgoingState : Type 0 where
 abbrev pub no_outgoing : OutgoingState
 no_outgoing = record { waiting = []; lost = 0 }
 
--- room for what the other side hasn't taken, in bytes
+-- room for what the other side hasn't taken, in bytes: for the longest line
 abbrev pub outgoing_room : ℕ
-outgoing_room = 140000
+outgoing_room = line_limit
 
 -- what waits is within its room, which is reserved; so is that for the line of what was dropped
 pub record HasRooms (waiting : List ℕ) (capacity line_capacity : ℕ) : Type 0 where

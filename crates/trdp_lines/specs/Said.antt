@@ -3,8 +3,9 @@ use Rattle.std.specs.Prelude.{◌≡◌, ℕ, ◌==◌, ◌||◌, ◌&&◌, ◌+
 use Rattle.std.specs.Prelude.{if◌then◌else◌, List, [], ◌∷◌, length, map, codes, Option, Some, None}
 use Rattle.std.specs.List.{flat_map, list_any}
 use Rattle.trdp_lines.specs.Connections.{ConnectionCall, Accepts, Reads, Writes, Closes}
-use Rattle.trdp_lines.specs.Connections.{Arrived, SomeBytes, NoBytes, NoMore, bytes_of}
-use Rattle.trdp_lines.specs.Lines.{line_limit, has_line, lines_in, rest_of}
+use Rattle.trdp_lines.specs.Connections.{ReadAnswer, SomeBytes, NoBytes, NoMore, reading_bytes}
+use Rattle.trdp_base.specs.Limits.{line_limit}
+use Rattle.trdp_lines.specs.Lines.{has_line, lines_in, rest_of}
 use Rattle.trdp_lines.specs.declared.connections.Accepted.{Accepted}
 use Rattle.trdp_lines.specs.declared.connections.Accepted.TheVariants.{Came, Nothing, Failed}
 
@@ -32,7 +33,7 @@ connections_in calls = flat_map accepted_by calls
 -- the bytes that a call read from a connection
 abbrev pub bytes_read : ℕ → ConnectionCall → List ℕ
 bytes_read n (Accepts number answer) = []
-bytes_read n (Reads number reading) = if number == n then bytes_of reading else []
+bytes_read n (Reads number reading) = if number == n then reading_bytes reading else []
 bytes_read n (Writes number writing) = []
 bytes_read n (Closes number) = []
 
@@ -41,7 +42,7 @@ abbrev pub bytes_from : ℕ → List ConnectionCall → List ℕ
 bytes_from n calls = flat_map (bytes_read n) calls
 
 -- a read said that no more come
-abbrev pub is_end : Arrived → Bool
+abbrev pub is_end : ReadAnswer → Bool
 is_end (SomeBytes bytes) = false
 is_end NoBytes = false
 is_end NoMore = true
@@ -54,8 +55,8 @@ reads_end n (Writes number writing) = false
 reads_end n (Closes number) = false
 
 -- a connection has ended
-abbrev pub has_ended : ℕ → List ConnectionCall → Bool
-has_ended n calls = list_any (reads_end n) calls
+abbrev pub connection_ended : ℕ → List ConnectionCall → Bool
+connection_ended n calls = list_any (reads_end n) calls
 
 -- the last of these lines is longer than any may be, and has no end yet
 abbrev pub is_too_long : List ℕ → Bool
@@ -63,7 +64,7 @@ is_too_long bytes = nat_le line_limit (length (rest_of bytes))
 
 -- a connection is over: it has ended, or says a line that is too long
 abbrev pub is_over : ℕ → List ConnectionCall → Bool
-is_over n calls = has_ended n calls || is_too_long (bytes_from n calls)
+is_over n calls = connection_ended n calls || is_too_long (bytes_from n calls)
 
 -- these lines of a connection
 abbrev pub said_by : ℕ → List (List ℕ) → List Said

@@ -1,159 +1,116 @@
--- What holds of the seats of a path at any time, and what one of them is asked.
-use Rattle.std.specs.Prelude.{◌≡◌, ℕ, ◌+◌, ◌<◌, ◌≤◌, ◌≢◌, ◌++◌, true, false, if◌then◌else◌}
-use Rattle.std.specs.Prelude.{length, take, List, [], ◌∷◌, Option, Some, None, codes}
-use Rattle.trdp_lines.specs.Closings.{AreOpenIfTold, HasLeft, IsUnheard, was_closed}
-use Rattle.trdp_lines.specs.Connections.{ConnectionCall, Writing, Writes, Closes, TellsMore}
-use Rattle.trdp_lines.specs.Conversations.{ConversationState}
-use Rattle.trdp_lines.specs.Lines.{lines_in}
-use Rattle.trdp_lines.specs.OperatorPaths.{has_seat, is_of, left_at_seat, seat_at}
-use Rattle.trdp_lines.specs.Paths.{IsHeard, IsUnreadFrom, last_number}
-use Rattle.trdp_lines.specs.Said.{connections_in}
+-- The seats of a path, and what is left to hand in there by its rule.
+use Rattle.std.specs.Prelude.{◌≡◌, ℕ, ◌+◌, ◌==◌, ◌++◌, Bool, true, false, if◌then◌else◌}
+use Rattle.std.specs.Prelude.{List, [], ◌∷◌, replicate, slice_index_or, Option, None, Some}
+use Rattle.std.specs.List.{flat_map, filter, list_any}
+use Rattle.trdp_lines.specs.declared.rule.Rule.{Rule}
+use Rattle.trdp_lines.specs.declared.rule.Rule.TheVariants.{Application, Operators}
+use Rattle.trdp_lines.specs.Connections.{ConnectionCall}
+use Rattle.trdp_lines.specs.Conversations.{ConversationState, conversation_of, left_to_hand_in}
+use Rattle.trdp_lines.specs.Conversations.{lines_left_by}
+use Rattle.trdp_lines.specs.Paths.{speaks}
+use Rattle.trdp_lines.specs.Said.{Said, HandsIn, applications_say, lines_of}
+
+-- how many connections have a seat at once, at most
+abbrev pub seats_at : Rule → ℕ
+seats_at Application = 1
+seats_at Operators = 4
+
+-- the end of a connection that has spoken is handed in
+abbrev pub counts_ends : Rule → Bool
+counts_ends Application = true
+counts_ends Operators = false
+
+-- The connections of a path; its seats, each of a connection or free; the one that waits for a seat,
+-- unread until it is known whether the one that has it lives; and how many came. `heard` is whether
+-- something was heard at the takes since that was asked the last time.
+pub record PathState (C : Type 0) : Type 0 where
+  pub connections : C
+  pub seats : List ConversationState
+  pub waiting : Option ℕ
+  pub came : ℕ
+  pub heard : Bool
+
+-- a seat of no connection
+abbrev pub free_seat : ConversationState
+free_seat = conversation_of None
+
+-- the connections of a path, none of which came yet, and where nothing was heard
+abbrev pub new_path : {C : Type 0} → Rule → C → PathState C
+new_path rule connections = record {
+  connections = connections;
+  seats = replicate (seats_at rule) free_seat;
+  waiting = None;
+  came = 0;
+  heard = false;
+}
+
+-- the seat at a place
+abbrev pub seat_at : List ConversationState → ℕ → ConversationState
+seat_at seats place = slice_index_or seats place free_seat
+
+-- a seat is that of the connection of this number
+abbrev pub is_of : ℕ → ConversationState → Bool
+is_of n c = speaks c.number n
+
+-- the connection of this number has one of these seats
+abbrev pub has_seat : ℕ → List ConversationState → Bool
+has_seat n seats = list_any (is_of n) seats
+
+-- the seats, and the place of the one that waits
+abbrev pub with_waiting : List ConversationState → Option ℕ → List ConversationState
+with_waiting seats waiting = seats ++ conversation_of waiting ∷ []
+
+-- those of a path
+abbrev pub places_of : {C : Type 0} → PathState C → List ConversationState
+places_of path = with_waiting path.seats path.waiting
+
+-- the connection of this number has a seat, or waits
+abbrev pub is_seated : {C : Type 0} → ℕ → PathState C → Bool
+is_seated n path = has_seat n (places_of path)
+
+-- what this seat has left to hand in, if it is that of the connection of this number
+abbrev pub left_at_seat : ℕ → ConversationState → List Said
+left_at_seat n c = if is_of n c then lines_left_by (Some n) c else []
+
+-- the lines that are left to hand in of the connection of this number
+abbrev pub left_in : ℕ → List ConversationState → List Said
+left_in n seats = flat_map (left_at_seat n) seats
+
+-- What is said at a path, in order: what applications say, one after another, with their ends; or
+-- the lines of an operator, which is the connection of this number.
+abbrev pub says_at : Rule → ℕ → List ConnectionCall → List Said
+says_at Application n calls = applications_say calls
+says_at Operators n calls = lines_of calls n
+
+-- what of that is left to hand in
+abbrev pub left_at_path : Rule → ℕ → List ConversationState → List Said
+left_at_path Application n seats = left_to_hand_in (seat_at seats 0)
+left_at_path Operators n seats = left_in n seats
+
+-- those of these texts that are of that
+abbrev pub texts_at : Rule → ℕ → List Said → List Said
+texts_at Application n texts = texts
+texts_at Operators n texts = filter (λ text. text.0 == n) texts
+
+-- nothing is left to hand in
+abbrev pub NothingLeft : Rule → List ConversationState → Type 0
+NothingLeft rule seats = (n : ℕ) → left_at_path rule n seats ≡ []
+
+-- what is left to hand in stays
+abbrev pub StaysLeft : Rule → (seats seats_then : List ConversationState) → Type 0
+StaysLeft rule seats seats_then = (n : ℕ)
+    → left_at_path rule n seats_then ≡ left_at_path rule n seats
+
+-- Between these calls these texts were handed in: they come next of all that is said, and after
+-- them what is left to hand in then.
+abbrev pub HandsInTexts : Rule → (calls calls_then : Option (List ConnectionCall))
+    → (seats seats_then : List ConversationState) → List Said → Type 0
+HandsInTexts rule calls calls_then seats seats_then texts = (n : ℕ)
+    → HandsIn (says_at rule n) calls calls_then (left_at_path rule n seats)
+    (left_at_path rule n seats_then)
+    (texts_at rule n texts)
 
 -- how many of these seats are those of the connection of this number
 abbrev pub seats_of : ℕ → List ConversationState → ℕ
 seats_of n [] = 0
 seats_of n (c ∷ seats) = (if is_of n c then 1 else 0) + seats_of n seats
-
--- what a seat knows of its connection, if it has one, is what these calls reported
-abbrev pub IsHeardIf : List ConnectionCall → Option ℕ → ConversationState → Type 0
-IsHeardIf calls None c = Unit {0}
-IsHeardIf calls (Some n) c = IsHeard calls n c
-
--- the same of each of these seats
-abbrev pub AreHeard : List ConnectionCall → List ConversationState → Type 0
-AreHeard calls [] = Unit {0}
-AreHeard calls (c ∷ seats) = IsHeardIf calls c.number c × AreHeard calls seats
-
--- each connection has one of these seats at most, and one that didn't come yet has none
-pub record AreSeated (seats : List ConversationState) (came : ℕ) : Type 0 where
-  pub once : (n : ℕ) → seats_of n seats ≤ 1
-  pub below : (n : ℕ) → came < n → seats_of n seats ≡ 0
-
--- what is known of the connections at these seats is what these calls reported, and nothing was
--- read from those that didn't come yet
-pub record AreTrueOf (calls : List ConnectionCall) (seats : List ConversationState) (came : ℕ)
-    : Type 0 where
-  pub unread : IsUnreadFrom (came + 1) calls
-  pub heard : AreHeard calls seats
-
--- the same of calls that may not be reported
-abbrev pub AreTrueIfTold : Option (List ConnectionCall) → List ConversationState → ℕ → Type 0
-AreTrueIfTold None seats came = Unit {0}
-AreTrueIfTold (Some calls) seats came = AreTrueOf calls seats came
-
--- what holds of a path at any time
-pub record IsPath (calls : Option (List ConnectionCall)) (seats : List ConversationState)
-    (came next : ℕ) : Type 0 where
-  pub four : length seats ≡ 4
-  pub order : next ≤ 4
-  pub within : came ≤ last_number
-  pub seated : AreSeated seats came
-  pub present : AreOpenIfTold calls (λ n. has_seat n seats) came
-  pub known : AreTrueIfTold calls seats came
-
--- nothing is left to hand in at a place
-abbrev pub IsSilentAt : List ConversationState → ℕ → Type 0
-IsSilentAt seats place = (n : ℕ) → left_at_seat n (seat_at seats place) ≡ []
-
--- all seats but the one at this place are what they were
-abbrev pub KeepsOthers : ℕ → (seats seats_then : List ConversationState) → Type 0
-KeepsOthers place seats seats_then =
-    (k : ℕ) → k ≢ place → seat_at seats_then k ≡ seat_at seats k
-
--- where nothing was left to hand in nothing is left
-abbrev pub StaySilent : (seats seats_then : List ConversationState) → Type 0
-StaySilent seats seats_then = (k : ℕ) → IsSilentAt seats k → IsSilentAt seats_then k
-
--- what a seat knows of its connection stays true, and these more of its lines were handed in
-pub record StaysHeard (n : ℕ) (calls calls_then : List ConnectionCall)
-    (old new : ConversationState) (lines : List (List ℕ)) (was : IsHeard calls n old)
-    : Type 0 where
-  pub heard : IsHeard calls_then n new
-  pub more : lines_in heard.before ≡ lines_in was.before ++ lines
-
--- between these calls none came, none was closed, the connection of this number alone was read
--- from, and these lines of it were handed in
-pub record HasTurn (n : ℕ) (calls calls_then : List ConnectionCall)
-    (old new : ConversationState) (lines : List (List ℕ)) : Type 0 where
-  pub more : List ConnectionCall
-  pub told : calls_then ≡ calls ++ more
-  pub come : connections_in calls_then ≡ connections_in calls
-  pub unclosed : (k : ℕ) → was_closed k more ≡ false
-  pub others : (k : ℕ) → k ≢ n → IsUnheard calls calls_then k
-  pub own : (was : IsHeard calls n old) → StaysHeard n calls calls_then old new lines was
-
--- the same of calls that may not be reported
-abbrev pub HasTurnIfTold : (n : ℕ) → (calls calls_then : Option (List ConnectionCall))
-    → (old new : ConversationState) → (lines : List (List ℕ)) → Type 0
-HasTurnIfTold n calls None old new lines = Unit {0}
-HasTurnIfTold n None (Some calls_then) old new lines = ⊥
-HasTurnIfTold n (Some calls) (Some calls_then) old new lines =
-    HasTurn n calls calls_then old new lines
-
--- its next line was handed in, cut to the room
-pub record HandsInOne (n : ℕ) (calls calls_then : Option (List ConnectionCall))
-    (old new : ConversationState) (room count : ℕ) (room_then : List ℕ) : Type 0 where
-  pub line : List ℕ
-  pub turn : HasTurnIfTold n calls calls_then old new (line ∷ [])
-  pub bytes : take count room_then ≡ take room line
-
--- a line of it was handed in, or none where none was found
-abbrev pub HandsInIf : (n : ℕ) → (calls calls_then : Option (List ConnectionCall))
-    → (old new : ConversationState) → (room : ℕ) → Option ℕ → (room_then : List ℕ) → Type 0
-HandsInIf n calls calls_then old new room None room_then =
-    HasTurnIfTold n calls calls_then old new []
-HandsInIf n calls calls_then old new room (Some count) room_then =
-    HandsInOne n calls calls_then old new room count room_then
-
--- the line `busy` is written to the connection of this number once, and it is closed
-pub record IsRefused (n : ℕ) (calls calls_then : Option (List ConnectionCall)) : Type 0 where
-  pub writing : Writing
-  pub busy : writing.bytes ≡ codes "busy\n"
-  pub told : TellsMore calls calls_then (Writes n writing ∷ Closes n ∷ [])
-
--- a place of a seat of this connection, or of a free one
-pub record IsPlaceOf (whose : Option ℕ) (seats : List ConversationState) (place : ℕ)
-    : Type 0 where
-  pub within : place < length seats
-  pub number : (seat_at seats place).number ≡ whose
-
--- none of these seats is of this connection, or free
-abbrev pub HasNoPlace : Option ℕ → List ConversationState → Type 0
-HasNoPlace whose seats =
-    (k : ℕ) → k < length seats → (seat_at seats k).number ≢ whose
-
--- a connection without a seat isn't read from between these calls, and gets none
-pub record StaysUnseated (calls calls_then : List ConnectionCall)
-    (seats seats_then : List ConversationState) (n : ℕ) : Type 0 where
-  pub unheard : IsUnheard calls calls_then n
-  pub unseated : has_seat n seats_then ≡ false
-
--- between these calls none came, those without a seat weren't read from, and one that has a seat
--- no longer was closed, once it was over
-pub record GoesOn (calls calls_then : List ConnectionCall)
-    (seats seats_then : List ConversationState) : Type 0 where
-  pub more : List ConnectionCall
-  pub told : calls_then ≡ calls ++ more
-  pub come : connections_in calls_then ≡ connections_in calls
-  pub others : (n : ℕ) → has_seat n seats ≡ false
-      → StaysUnseated calls calls_then seats seats_then n
-  pub left : (n : ℕ) → has_seat n seats ≡ true → has_seat n seats_then ≡ false
-      → HasLeft n calls_then
-
--- the same of calls that may not be reported
-abbrev pub GoesOnIfTold : (calls calls_then : Option (List ConnectionCall))
-    → (seats seats_then : List ConversationState) → Type 0
-GoesOnIfTold calls None seats seats_then = Unit {0}
-GoesOnIfTold None (Some calls_then) seats seats_then = ⊥
-GoesOnIfTold (Some calls) (Some calls_then) seats seats_then =
-    GoesOn calls calls_then seats seats_then
-
--- each seat that is taken is what it was
-abbrev pub KeepTaken : (seats seats_then : List ConversationState) → Type 0
-KeepTaken seats seats_then = (place n : ℕ) → (seat_at seats place).number ≡ Some n
-    → seat_at seats_then place ≡ seat_at seats place
-
--- each that has a seat keeps it
-abbrev pub KeepSeats : (seats seats_then : List ConversationState) → Type 0
-KeepSeats seats seats_then =
-    (n : ℕ) → has_seat n seats ≡ true → has_seat n seats_then ≡ true

@@ -1,7 +1,7 @@
 //! What both paths have in common where a connection comes.
 
 ghost use Rattle.std.specs.Prelude.{◌≡◌};
-ghost use Rattle.trdp_lines.specs.Seats.{IsRefused};
+ghost use Rattle.trdp_lines.specs.Turns.{IsRefused};
 
 use crate::connections::Connections;
 

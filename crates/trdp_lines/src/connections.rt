@@ -1,9 +1,10 @@
 //! The connections that come in at a path.
 
 ghost use Rattle.std.specs.Prelude.{◌≡◌, ◌<◌, [], ◌∷◌, length};
-ghost use Rattle.trdp_lines.specs.Connections.{CameWithin, WentWithin, TellsMore};
+ghost use Rattle.trdp_base.specs.Reported.{TellsMore};
+ghost use Rattle.trdp_lines.specs.Connections.{CameWithin, WentWithin};
 ghost use Rattle.trdp_lines.specs.Connections.{reading_of, writing_of, came_count, went_count};
-ghost use Rattle.trdp_lines.specs.Connections.{has_come};
+ghost use Rattle.trdp_lines.specs.Connections.{came_or_ended};
 ghost use Rattle.trdp_lines.specs.Connections.{Accepts, Reads, Writes, Closes};
 
 /// The result of a read.
@@ -105,7 +106,7 @@ impl Came {
 
     /// Whether bytes came, or the end.
     pub(crate) fn has_come(self) -> bool
-        ensures { result ≡ has_come self }
+        ensures { result ≡ came_or_ended self }
     {
         match self {
             Came::Bytes(_) | Came::Ended => true,

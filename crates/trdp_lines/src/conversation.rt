@@ -4,7 +4,7 @@ ghost use Rattle.std.specs.Prelude.{◌≡◌, ◌<◌, ◌≤◌, [], ◌∷◌
 ghost use Rattle.std.specs.Prelude.{Some, None, IfOk, IfSome, IfNone};
 ghost use Rattle.trdp_lines.specs.declared.connections.Came.TheVariants.{Nothing};
 ghost use Rattle.trdp_lines.specs.Closings.{FindsNothing};
-ghost use Rattle.trdp_lines.specs.Connections.{came_count, has_come};
+ghost use Rattle.trdp_lines.specs.Connections.{came_count, came_or_ended};
 ghost use Rattle.trdp_lines.specs.Conversations.{HasRead, HasWritten, conversation_of, is_done};
 ghost use Rattle.trdp_lines.specs.Hearings.{Hears};
 ghost use Rattle.trdp_lines.specs.Intakes.{intake_room};
@@ -123,7 +123,7 @@ impl Conversation {
         ensures read { HasRead number self.old self.new (C.calls from.old) (C.calls from.new) }
         ensures nothing { result ≡ Nothing → self.new ≡ self.old }
         ensures asked { result ≡ Nothing → FindsNothing number (C.calls from.new) }
-        ensures heard { Hears (C.calls from.old) (C.calls from.new) false (has_come result) }
+        ensures heard { Hears (C.calls from.old) (C.calls from.new) false (came_or_ended result) }
         ensures kept { C.file_number from.new ≡ C.file_number from.old }
     {
         let came = self.intake.fill(from, number);

@@ -3,7 +3,8 @@
 ghost use Rattle.std.specs.Prelude.{◌≡◌, ◌+◌, ◌-◌, ◌<◌, ◌≤◌, [], ◌∷◌, ◌++◌, nat_le};
 ghost use Rattle.std.specs.Prelude.{length, take, drop, true, false, IfOk, IfSome, IfNone};
 ghost use Rattle.std.specs.Prelude.{MatchOption};
-ghost use Rattle.trdp_lines.specs.Connections.{CameWithin, TellsMore, came_count, bytes_of};
+ghost use Rattle.trdp_base.specs.Reported.{TellsMore};
+ghost use Rattle.trdp_lines.specs.Connections.{CameWithin, came_count, reading_bytes};
 ghost use Rattle.trdp_lines.specs.Connections.{Reads, reading_of};
 ghost use Rattle.trdp_lines.specs.Intakes.{intake_room, lying, IsFirstLine, reading_between};
 ghost use Rattle.trdp_lines.specs.Lines.{has_line, first_line, behind_line};
@@ -12,9 +13,10 @@ use crate::connections::{Came, Connections};
 use memchr::memchr;
 use std::alloc::{AllocError, Global};
 use std::marker::Model;
+use trdp_base::LINE_MAX;
 
 /// Room for one line with its end, in bytes.
-const LINE_ROOM: usize = 140_000;
+const LINE_ROOM: usize = LINE_MAX;
 
 /// The bytes of a connection that were read and not handed in.
 #[derive(Drop)]
@@ -88,7 +90,7 @@ impl Intake {
         ensures count { CameWithin (intake_room - length self.old) result }
         ensures length { length self.new ≡ length self.old + came_count result }
         ensures bytes { self.new
-            ≡ self.old ++ bytes_of (reading_between result self.old self.new) }
+            ≡ self.old ++ reading_bytes (reading_between result self.old self.new) }
         ensures told { TellsMore (C.calls from.old) (C.calls from.new)
             (Reads number (reading_between result self.old self.new) ∷ []) }
         ensures kept { C.file_number from.new ≡ C.file_number from.old }

@@ -1,5 +1,6 @@
 //! The connections at the path of a control port ([`ControlPath`]) and at the path of the
-//! operator's port ([`OperatorPath`]), as lines of text in and out.
+//! operator's port ([`OperatorPath`]), as lines of text in and out. Both are a [`Path`], each with
+//! its [`Rule`].
 //!
 //! At a control port one connection is the application, from its first line on until it ends. What
 //! it says is handed in line by line, and its end as the line `reset`. The operator's path has up
@@ -7,7 +8,7 @@
 //! implements [`Connections`]; `trdp_controls` has those of the operating system.
 //!
 //! ```text
-//! let mut path = ControlPath::new(alloc, connections)?;
+//! let mut path: ControlPath<_> = Path::new(alloc, connections)?;
 //! for _ in rt.forever() {
 //!     while let Some((number, len)) = path.take(&mut room)? {    // a line, or `reset`
 //!         let (line, _) = room.split_at(len);
@@ -24,19 +25,21 @@
 //!
 //! Proved, where the connections report what was asked of them: what is handed in is what
 //! applications said by these reports, each line once and in order, cut to the room. The end of
-//! each comes after its last line and before any line of a later one. Each connection that comes
-//! has the next number, which no later one gets.
+//! each comes after its last line and before any line of a later one. Of an operator its lines are
+//! handed in, each once and in order. Each connection that comes has the next number, which no
+//! later one gets.
 //!
-//! A connection that came has a seat, or it was closed. It is closed when it is over. At a control
-//! port it is also closed if it has said no line and a later one is there, or after `busy` if an
-//! application lives that came before it. Before both, a read found that the one that spoke goes
-//! on. At the operator's port it is closed after `busy` if each of the four seats is taken. No
+//! A connection that came has a seat, or waits, or it was closed. It is closed when it is over. At
+//! a control port it is also closed if it has said no line and a later one is there, or after
+//! `busy` if an application lives that came before it. Before both, a read found that the one that
+//! spoke goes on. So a connection that never says a line gives way to the next one. At the
+//! operator's port a connection is closed after `busy` if each of the four seats is taken. No
 //! connection that has a seat was closed.
 //!
 //! A take that finds nothing has asked for the next connection, unless one waits or the last number
-//! was given, and read from those that speak; none of these is over. A take and a give write to a
-//! connection at least once if something waits for it. Where nothing is heard at a take, no call of
-//! the connections brought anything, and none waited.
+//! was given, and read from those that have a seat; none of these is over. A take and a give write
+//! to a connection at least once if something waits for it. Where nothing is heard at a take, no
+//! call of the connections brought anything, and none waited.
 //!
 //! If connections report nothing, as the system's don't, only the clauses about their numbers hold
 //! of them. No contract says how much a write offers, what else a take writes, that it keeps what
@@ -47,21 +50,21 @@
 
 mod admission;
 mod connections;
-mod control_path;
 mod conversation;
 mod intake;
 mod laws;
-mod operator_path;
 mod outgoing;
+mod path;
 mod path_fault;
 mod reset_line;
+mod rule;
 mod seats;
 
 pub use connections::{Accepted, Came, Connections, Went};
-pub use control_path::ControlPath;
 pub use laws::{
     bytes_are_lines_and_rest, each_line_is_handed_in, lines_come_one_by_one, texts_go_whole,
     whole_lines_stay,
 };
-pub use operator_path::OperatorPath;
+pub use path::{ControlPath, OperatorPath, Path};
 pub use path_fault::{AcceptFault, LostText};
+pub use rule::{ForApplication, ForOperators, Policy, Rule};

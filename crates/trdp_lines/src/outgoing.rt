@@ -2,7 +2,8 @@
 
 ghost use Rattle.std.specs.Prelude.{◌≡◌, ◌+◌, ◌<◌, ◌≤◌, [], ◌∷◌, length, drop, IfOk, ◌==◌};
 ghost use Rattle.std.specs.Prelude.{vec_len, vec_capacity};
-ghost use Rattle.trdp_lines.specs.Connections.{WentWithin, TellsMore, Writes, went_count};
+ghost use Rattle.trdp_base.specs.Reported.{TellsMore};
+ghost use Rattle.trdp_lines.specs.Connections.{WentWithin, Writes, went_count};
 ghost use Rattle.trdp_lines.specs.Connections.{writing_of};
 ghost use Rattle.trdp_lines.specs.Outgoings.{no_outgoing, outgoing_room, lost_line, lost_told};
 ghost use Rattle.trdp_lines.specs.Outgoings.{can_tell, finds_room, with_bytes, takes_text};
@@ -11,10 +12,10 @@ ghost use Rattle.trdp_lines.specs.Outgoings.{with_text};
 use crate::connections::{Connections, Went};
 use std::alloc::{AllocError, Global};
 use std::marker::Model;
-use trdp_base::push_number;
+use trdp_base::{LINE_MAX, push_number};
 
-/// Room for what the other side hasn't taken, in bytes.
-const OUT_ROOM: usize = 140_000;
+/// Room for what the other side hasn't taken, in bytes: for the longest line.
+const OUT_ROOM: usize = LINE_MAX;
 
 /// Room for the longest line that says how many texts were dropped, in bytes.
 const LOST_ROOM: usize = 26;

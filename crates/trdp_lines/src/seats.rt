@@ -1,29 +1,22 @@
-//! The seats at the path of the operator's port.
+//! The seats at a path.
 
-ghost use Rattle.std.specs.Prelude.{◌≡◌, ◌<◌, ◌≤◌, ℕ, length, replicate, Some, None};
-ghost use Rattle.std.specs.Prelude.{IfOk, IfSome, IfNone, MatchOption, is_some, ◌||◌};
-ghost use Rattle.trdp_lines.specs.Askings.{AsksOne};
-ghost use Rattle.trdp_lines.specs.Hearings.{Hears};
-ghost use Rattle.trdp_lines.specs.Lines.{IsUnended};
-ghost use Rattle.trdp_lines.specs.OperatorPaths.{free_seat, free_seats, seat_at};
-ghost use Rattle.trdp_lines.specs.Seats.{HandsInIf, HasNoPlace, IsPlaceOf};
+ghost use Rattle.std.specs.Prelude.{◌≡◌, ◌<◌, ℕ, length, replicate, Some, None};
+ghost use Rattle.std.specs.Prelude.{IfOk, MatchOption};
+ghost use Rattle.trdp_lines.specs.Seats.{free_seat, seat_at};
+ghost use Rattle.trdp_lines.specs.Turns.{HasNoPlace, IsPlaceOf};
 
-use crate::connections::Connections;
 use crate::conversation::Conversation;
 use std::alloc::{AllocError, Global};
 
-/// How many connections there may be at once.
-pub(crate) const SEATS: usize = 4;
-
-/// Four seats, each of no connection.
+/// So many seats, each of no connection.
 ///
 /// # Errors
 /// [`AllocError`] where there is no memory for them.
-pub(crate) fn free_seats_in(alloc: Global) -> Result<Vec<Conversation>, AllocError>
-    ensures { IfOk result (λ seats. seats.items ≡ free_seats) }
+pub(crate) fn free_seats_in(alloc: Global, count: usize) -> Result<Vec<Conversation>, AllocError>
+    ensures { IfOk result (λ seats. seats.items ≡ replicate count free_seat) }
 {
-    let mut seats = Vec::with_capacity(alloc, SEATS)?;
-    for _ in 0..SEATS {
+    let mut seats = Vec::with_capacity(alloc, count)?;
+    for _ in 0..count {
         seats.push(Conversation::new(alloc)?)?;
     }
     Ok(seats)
@@ -40,36 +33,4 @@ pub(crate) fn place_of(seats: &[Conversation], number: Option<u64>) -> Option<us
         }
     }
     None
-}
-
-/// Hands in the next line of a connection, which has that number. Where none is there it is read
-/// from once before, unless it is done. What waits for it is written first of all.
-pub(crate) fn hear<C: Connections>(
-    seat: &mut Conversation,
-    from: &mut C,
-    number: u64,
-    room: &mut [u8],
-    heard: &mut bool,
-) -> Option<usize>
-    ensures within { IfSome result (λ count. count ≤ length room.new) }
-    ensures next { HandsInIf number (C.calls from.old) (C.calls from.new) seat.old seat.new
-        (length room.old) result room.new }
-    ensures number { seat.new.number ≡ seat.old.number }
-    ensures silent { IfNone result (IsUnended seat.new.bytes) }
-    ensures heard { Hears (C.calls from.old) (C.calls from.new)
-        (is_some result || heard.old) heard.new }
-    ensures asked { IfNone result
-        (AsksOne number (C.calls from.old) (C.calls from.new) seat.old seat.new) }
-    ensures kept { C.file_number from.new ≡ C.file_number from.old }
-{
-    seat.flush(from, number);
-    if let Some(count) = seat.next_line(room) {
-        *heard = true;
-        return Some(count);
-    }
-    if seat.is_done() {
-        return None;
-    }
-    *heard |= seat.listen(from, number).has_come();
-    seat.next_line(room)
 }

@@ -2,36 +2,24 @@
 -- For `attend_over` and `attend_lines`.
 -- By a loop's invariant: the turns so far are those up to the latest line.
 use Rattle.std.proofs.Common.{◌≡◌, ◌+◌, ◌-◌, ◌^◌, ◌==◌, min, ℕ, suc, Bool, not, false, List, []}
-use Rattle.std.proofs.Common.{◌∷◌, ◌++◌, Option, Some, None, refl, sym, ◌∙◌, ap, subst, arith}
+use Rattle.std.proofs.Common.{◌∷◌, ◌++◌, Option, refl, sym, ◌∙◌, ap, subst, arith}
 use Rattle.std.proofs.Common.{length, map, take}
 use Rattle.std.proofs.Common.{append_assoc, append-nil, Result, Ok, Err, IfErr, OnOk}
 use Rattle.std.proofs.Common.{IsErrAnd}
 use Rattle.trdp_dataset.specs.Configs.{ConfigModel}
-use Rattle.trdp_wire.specs.Told.{Taking, Give, TellsMore}
+use Rattle.trdp_base.specs.Reported.{TellsMore}
+use Rattle.trdp_wire.specs.Told.{Taking, Give}
 use Rattle.trdp_daemon.specs.Daemons.{DaemonState, HasServed}
 use Rattle.trdp_daemon.specs.Turns.{Turn, offers_of}
 use Rattle.trdp_program.specs.declared.faults.ServeFault.{ServeFault}
 use Rattle.trdp_program.specs.declared.faults.ServeFault.TheVariants.{Bind, Write, OutOfMemory}
 use Rattle.trdp_program.specs.Serving.{AreTotals}
-use Rattle.trdp_program.specs.Streams.{Attempt, attempt, written_by, is_cut_behind, line_end}
-use Rattle.trdp_program.specs.Attending.{TotalsLine, turns_of, line_due, bytes_of_line}
+use Rattle.trdp_program.specs.Streams.{Attempt, attempt, written_by, is_cut_behind, cut_line_end}
+use Rattle.trdp_program.specs.Attending.{TotalsLine, turns_so_far, line_due, bytes_of_line}
 use Rattle.trdp_program.specs.Attending.{text_of_line}
 use Rattle.trdp_program.specs.Attending.{EndsWhenDue, ServesUntilDue, HasServedLines}
 use Rattle.trdp_program.specs.Attending.{WritesAllLines, WritesUpTo, WritesLinesOver, FailsOver}
-
--- nothing was added
-pub adds_none : {X : Type 0} (told : Option (List X)) → TellsMore told told []
-adds_none None = tt
-adds_none (Some told) = sym (append-nil told)
-
--- what was added, and then what was added to that
-pub adds_both : {X : Type 0} (a b c : Option (List X)) (xs ys : List X) → TellsMore a b xs
-    → TellsMore b c ys → TellsMore a c (xs ++ ys)
-adds_both a b None xs ys p q = tt
-adds_both a None (Some c) xs ys p q = absurd q
-adds_both None (Some b) (Some c) xs ys p q = absurd p
-adds_both (Some a) (Some b) (Some c) xs ys p q =
-    q ∙ ap (λ l. l ++ ys) p ∙ append_assoc a xs ys
+use Rattle.trdp_base.proofs.ReportedLemmas.{adds_none, adds_both}
 
 -- what a stream has by some attempts and one more
 written_more : (before : List Attempt) (bytes : List ℕ) (count : ℕ)
@@ -117,7 +105,7 @@ served_next : {W C : Type 0} {takings_in : W → Option (List Taking)}
     {lines : List TotalsLine} {daemon next : DaemonState W C}
     (p : HasServedLines takings_in gives_in readings_in config lease wire clock step lines daemon)
     (q : ServesUntilDue takings_in gives_in readings_in config lease wire clock
-    p.served.turns p.served.gives due reading next) → due ≡ line_due step (turns_of lines)
+    p.served.turns p.served.gives due reading next) → due ≡ line_due step (turns_so_far lines)
     → HasServedLines takings_in gives_in readings_in config lease wire clock step
     (next_line q ∷ lines)
     next
@@ -151,7 +139,7 @@ pub lines_more : {W C : Type 0} {takings_in : W → Option (List Taking)}
     daemon)
     → ServesUntilDue takings_in gives_in readings_in config lease wire clock
     p.served.served.turns p.served.served.gives due reading next
-    → bytes ≡ line_end is_cut ++ text_of_line next.totals
+    → bytes ≡ cut_line_end is_cut ++ text_of_line next.totals
     → TellsMore b c (attempt bytes count ∷ [])
     → is_cut_then ≡ is_cut_behind is_cut (take count bytes)
     → next_due ≡ min (reading + step) (2 ^ 64 - 1)
@@ -162,7 +150,7 @@ lines_more {step = step} {n = n} {is_cut = is_cut} {is_cut_then} {bytes} {a} {b}
     let line = next_line q in
     let one_more : suc (length p.lines) ≡ n + 1 = omega (arith, p.count) in
     let whole : bytes ≡ bytes_of_line p.attempts line =
-    bytes_are ∙ ap (λ f. line_end f ++ text_of_line next.totals) p.is_cut_is in
+    bytes_are ∙ ap (λ f. cut_line_end f ++ text_of_line next.totals) p.is_cut_is in
     record {
       lines = line ∷ p.lines;
       served = served_next p.served q p.due_is;

@@ -12,7 +12,7 @@ use Rattle.std.specs.Fmt.{WritesText, with_newline}
 use Rattle.std.specs.Fmt.InlineText.{inline_text, IsIntact, AppendsIfIntact}
 use Rattle.std.specs.List.{FoldsTo, concat}
 use Rattle.trdp_script.specs.Writes.{PartlyWrites}
-use Rattle.trdp_program.specs.Faults.{TellsFault, TellsFaultFirst, TellsText}
+use Rattle.trdp_program.specs.Faults.{TellsFault, TellsFaultFirst, AppendsText}
 
 -- all of the bytes were written, or a front of them
 partly_written : {A E : Type 0} (r : Result A E) (old new : Option (List ℕ)) (bytes : List ℕ)
@@ -80,7 +80,7 @@ told_whole (Some text) start line made r old new bytes empty intact good wrote i
 
 -- a line that was written whole, and more after it
 pub first_whole : (text : List ℕ) (a b c : Option (List ℕ)) → Appends a b (text ++ codes "\n")
-    → TellsText b c → TellsFaultFirst text a c
+    → AppendsText b c → TellsFaultFirst text a c
 first_whole text a b c line more =
     let all = text ++ codes "\n" ++ more.0 in
     let whole : all ≡ take (length all) all = sym (take_all (length all) all (omega arith)) in (

@@ -16,13 +16,13 @@ use Rattle.trdp_daemon.specs.Daemons.{DaemonState, HasServed}
 use Rattle.trdp_daemon.specs.Turns.{Turn}
 use Rattle.trdp_daemon.specs.Resting.{AreEarly, ServesUntil, reading_behind, last_reading}
 use Rattle.trdp_program.specs.Attending.{EndsWhenDue, ServesUntilDue}
-use Rattle.trdp_program.specs.Faults.{TellsText}
+use Rattle.trdp_program.specs.Faults.{AppendsText}
 
 -- nothing is some text, as two texts are one
-pub text_none : (told : Option (List ℕ)) → TellsText told told
+pub text_none : (told : Option (List ℕ)) → AppendsText told told
 text_none told = ([], Appends-nil told)
 
-pub text_both : (a b c : Option (List ℕ)) → TellsText a b → TellsText b c → TellsText a c
+pub text_both : (a b c : Option (List ℕ)) → AppendsText a b → AppendsText b c → AppendsText a c
 text_both a b c p q = (p.0 ++ q.0, Appends-trans a b c p.0 q.0 p.1 q.1)
 
 either_false : (a b : Bool) → (a || b) ≡ false → (a ≡ false) × (b ≡ false)

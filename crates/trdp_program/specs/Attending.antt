@@ -3,22 +3,23 @@ use Rattle.std.specs.Prelude.{◌≡◌, ◌⊎◌, ℕ, ◌+◌, ◌*◌, ◌-�
 use Rattle.std.specs.Prelude.{Bool, false, List, [], ◌∷◌, ◌++◌, codes, length, Option, Ok}
 use Rattle.trdp_dataset.specs.Configs.{ConfigModel, ReadsToml, config_of}
 use Rattle.trdp_daemon.specs.declared.totals.Totals.{Totals}
-use Rattle.trdp_wire.specs.Told.{Taking, Give, TellsMore}
+use Rattle.trdp_base.specs.Reported.{TellsMore}
+use Rattle.trdp_wire.specs.Told.{Taking, Give}
 use Rattle.trdp_daemon.specs.Daemons.{DaemonState, HasServed}
 use Rattle.trdp_daemon.specs.Questions.{text_of_totals}
 use Rattle.trdp_daemon.specs.Resting.{AreEarly, last_reading}
 use Rattle.trdp_daemon.specs.Turns.{Turn}
 use Rattle.trdp_program.specs.Checking.{RefusesConfig}
-use Rattle.trdp_program.specs.Faults.{TellsFault, TellsText, text_of_serve_fault}
+use Rattle.trdp_program.specs.Faults.{TellsFault, AppendsText, text_of_serve_fault}
 use Rattle.trdp_program.specs.Serving.{AreTotals}
-use Rattle.trdp_program.specs.Streams.{Attempt, attempt, written_by, is_cut_behind, line_end}
+use Rattle.trdp_program.specs.Streams.{Attempt, attempt, written_by, is_cut_behind, cut_line_end}
 use Rattle.trdp_program.specs.declared.faults.ServeFault.{ServeFault}
 use Rattle.trdp_program.specs.declared.faults.ServeFault.TheVariants.{Bind, Write, OutOfMemory}
 
 -- the microseconds from one line of totals to the next, for that many seconds; with 0 it is as
 -- long as a clock of 64 bits goes
-unfoldable pub step_of : ℕ → ℕ
-step_of seconds = if seconds == 0 then 2 ^ 64 - 1 else seconds * 1000000
+unfoldable pub totals_period : ℕ → ℕ
+totals_period seconds = if seconds == 0 then 2 ^ 64 - 1 else seconds * 1000000
 
 -- a line of totals: all of the node's turns up to it, what was given in them, and its totals
 pub record TotalsLine : Type 0 where
@@ -27,14 +28,14 @@ pub record TotalsLine : Type 0 where
   pub totals : Totals
 
 -- the turns up to the latest of these lines, which comes first
-abbrev pub turns_of : List TotalsLine → List Turn
-turns_of [] = []
-turns_of (line ∷ earlier) = line.turns
+abbrev pub turns_so_far : List TotalsLine → List Turn
+turns_so_far [] = []
+turns_so_far (line ∷ earlier) = line.turns
 
 -- what was given in them
-abbrev pub gives_of : List TotalsLine → List Give
-gives_of [] = []
-gives_of (line ∷ earlier) = line.gives
+abbrev pub gives_so_far : List TotalsLine → List Give
+gives_so_far [] = []
+gives_so_far (line ∷ earlier) = line.gives
 
 -- the text of a line
 abbrev pub text_of_line : Totals → List ℕ
@@ -85,14 +86,14 @@ pub record IsNextLine (config : ConfigModel) (lease : Option ℕ) (step : ℕ) (
 abbrev pub AreLines : ConfigModel → Option ℕ → ℕ → List TotalsLine → Type 0
 AreLines config lease step [] = Unit {0}
 AreLines config lease step (line ∷ earlier) =
-    IsNextLine config lease step (turns_of earlier) (gives_of earlier) line
+    IsNextLine config lease step (turns_so_far earlier) (gives_so_far earlier) line
     × AreLines config lease step earlier
 
 -- what the stream is asked to take for a line, where it took these before: the end of a line that
 -- was cut, and then the whole line
 abbrev pub bytes_of_line : List Attempt → TotalsLine → List ℕ
 bytes_of_line before line =
-    line_end (is_cut_behind false (written_by before)) ++ text_of_line line.totals
+    cut_line_end (is_cut_behind false (written_by before)) ++ text_of_line line.totals
 
 -- a stream was asked to take each of these lines once, in their order, the latest being the first
 -- in this list; and nothing else. A line that it didn't take is left out
@@ -136,8 +137,8 @@ pub record HasServedLines {W C : Type 0} (takings_in : W → Option (List Taking
     (daemon : DaemonState W C) : Type 0 where
   pub n : ℕ
   pub served : HasServed takings_in gives_in readings_in config lease wire clock n daemon
-  pub turns_are : served.turns ≡ turns_of lines
-  pub gives_are : served.gives ≡ gives_of lines
+  pub turns_are : served.turns ≡ turns_so_far lines
+  pub gives_are : served.gives ≡ gives_so_far lines
   pub are_lines : AreLines config lease step lines
 
 -- such a daemon has served, and a stream was asked to take n lines; the next one is due at `due`,
@@ -154,7 +155,7 @@ pub record WritesLinesOver {W C : Type 0} (takings_in : W → Option (List Takin
   pub attempts : List Attempt
   pub are_attempts : AttemptsLines lines attempts
   pub told : TellsMore old new attempts
-  pub due_is : due ≡ line_due step (turns_of lines)
+  pub due_is : due ≡ line_due step (turns_so_far lines)
   pub is_cut_is : is_cut ≡ is_cut_behind false (written_by attempts)
 
 -- such a daemon has served up to a line for which an allocation failed: a stream was asked to take
@@ -180,7 +181,7 @@ pub record AttendsToEnd (config : ConfigModel) (lease : Option ℕ) (step : ℕ)
     (errors errors_then : Option (List ℕ)) (status : ℕ) : Type 0 where
   pub status_is : status ≡ 0
   pub written : WritesAllLines config lease step old new
-  pub losses : TellsText errors errors_then
+  pub losses : AppendsText errors errors_then
 
 -- the service ended with a fault: the status is 4, and the error stream gets what was lost, and
 -- then the fault
@@ -191,7 +192,7 @@ pub record FailsToAttend (config : ConfigModel) (lease : Option ℕ) (step : ℕ
   pub status_is : status ≡ 4
   pub written : WritesUpTo fault config lease step old new
   pub before : Option (List ℕ)
-  pub losses : TellsText errors before
+  pub losses : AppendsText errors before
   pub told : TellsFault (text_of_serve_fault fault) before errors_then
 
 -- a daemon's service of a node, with this lease: what the writer was asked to take and what the
@@ -211,9 +212,9 @@ pub record AttendsConfig (bytes : List ℕ) (lease : Option ℕ) (step : ℕ)
   pub is : ReadsToml config_of bytes (Ok config)
   pub before : Option (List ℕ)
   pub behind : Option (List ℕ)
-  pub words : TellsText errors before
+  pub words : AppendsText errors before
   pub attends : Attends config lease step old new before behind status
-  pub more : TellsText behind errors_then
+  pub more : AppendsText behind errors_then
 
 -- a daemon's service over these bytes of a configuration, with this lease: what the writer was
 -- asked to take and what the error stream had before and after it, and the status. Where the bytes

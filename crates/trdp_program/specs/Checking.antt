@@ -4,7 +4,7 @@ use Rattle.std.specs.Io.KnownBytes.{Keeps}
 use Rattle.trdp_dataset.specs.Configs.{ConfigModel, ReadsToml, config_of}
 use Rattle.trdp_dataset.specs.declared.fault.ConfigFault.{ConfigFault}
 use Rattle.trdp_text.specs.ConfigNames.{text_of_config_fault}
-use Rattle.trdp_program.specs.Faults.{TellsFault, TellsFaultFirst, TellsText, text_of_serve_fault}
+use Rattle.trdp_program.specs.Faults.{TellsFault, TellsFaultFirst, AppendsText, text_of_serve_fault}
 use Rattle.trdp_program.specs.Programs.{IsConfigFault}
 use Rattle.trdp_program.specs.declared.faults.ServeFault.{ServeFault}
 use Rattle.trdp_program.specs.declared.faults.ServeFault.TheVariants.{Bind}
@@ -25,7 +25,7 @@ pub record ReportsConfig (bytes : List ℕ) (old new errors errors_then : Option
   pub config : ConfigModel
   pub is : ReadsToml config_of bytes (Ok config)
   pub status_is : status ≡ 0
-  pub written : TellsText old new
+  pub written : AppendsText old new
   pub faultless : Keeps errors errors_then
 
 -- the bytes are a configuration, but the text wasn't written, or only a front of it: the status is
@@ -37,7 +37,7 @@ pub record FailsToReport (bytes : List ℕ) (old new errors errors_then : Option
   pub fault : ServeFault
   pub not_bind : fault ≢ Bind
   pub status_is : status ≡ 4
-  pub written : TellsText old new
+  pub written : AppendsText old new
   pub told : TellsFault (text_of_serve_fault fault) errors errors_then
 
 -- a check of these bytes as a configuration: what the writer and the error stream had before and

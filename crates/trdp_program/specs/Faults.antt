@@ -15,8 +15,8 @@ abbrev pub TellsFault : List ℕ → Option (List ℕ) → Option (List ℕ) →
 TellsFault text old new = PartlyWrites old new (text ++ codes "\n")
 
 -- some text was written, as far as the stream reports it
-abbrev pub TellsText : Option (List ℕ) → Option (List ℕ) → Type 0
-TellsText old new = (text : List ℕ) × Appends old new text
+abbrev pub AppendsText : Option (List ℕ) → Option (List ℕ) → Type 0
+AppendsText old new = (text : List ℕ) × Appends old new text
 
 -- the line of a fault was written, of this text, and then maybe more; or a front of that
 abbrev pub TellsFaultFirst : List ℕ → Option (List ℕ) → Option (List ℕ) → Type 0

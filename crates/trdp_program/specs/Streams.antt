@@ -21,6 +21,6 @@ is_cut_behind before [] = before
 is_cut_behind before (byte ∷ bytes) = is_cut_behind (not (byte == 10)) bytes
 
 -- what ends a line that was cut
-abbrev pub line_end : Bool → List ℕ
-line_end false = []
-line_end true = codes "\n"
+abbrev pub cut_line_end : Bool → List ℕ
+cut_line_end false = []
+cut_line_end true = codes "\n"

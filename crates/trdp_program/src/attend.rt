@@ -3,9 +3,9 @@
 ghost use Rattle.std.specs.Prelude.{◌≡◌, ◌^◌, ◌-◌, OnOk, IfErr, Bool, ℕ, Option};
 ghost use Rattle.trdp_dataset.specs.Configs.{ConfigModel};
 ghost use Rattle.trdp_daemon.specs.Daemons.{HasServed};
-ghost use Rattle.trdp_program.specs.Attending.{Attends, FailsOver, ServesUntilDue, step_of};
+ghost use Rattle.trdp_program.specs.Attending.{Attends, FailsOver, ServesUntilDue, totals_period};
 ghost use Rattle.trdp_program.specs.Attending.{WritesAllLines, WritesLinesOver, WritesUpTo};
-ghost use Rattle.trdp_program.specs.Faults.{TellsText};
+ghost use Rattle.trdp_program.specs.Faults.{AppendsText};
 ghost use Rattle.trdp_program.specs.Serving.{lease_of};
 
 use crate::faults::{SERVE_FAULT_STATUS, ServeFault};
@@ -23,7 +23,7 @@ use std::time::Clock;
 use trdp_daemon::Daemon;
 use trdp_dataset::NodeConfig;
 use trdp_udp::RunClock;
-use trdp_wire::Wire;
+use trdp_wire::WatchedWire;
 
 /// Serves a node of a configuration until the program is stopped, and returns the exit status: 4
 /// after a fault, which gives one line on `errors`, and 0 after 2^64 - 1 lines of totals.
@@ -35,7 +35,7 @@ pub(crate) fn attend_config<H: Files + Net + Clock + AllocGlobal, W: Stream, E: 
     writer: &mut W,
     errors: &mut E,
 ) -> u8
-    ensures { Attends config (lease_of options.entry.lease) (step_of seconds)
+    ensures { Attends config (lease_of options.entry.lease) (totals_period seconds)
         (W.attempts writer.old) (W.attempts writer.new)
         (E.contents errors.old) (E.contents errors.new) result }
 {
@@ -60,11 +60,12 @@ fn attend<H: Files + Net + Clock + AllocGlobal, W: Stream, E: Write>(
     writer: &mut W,
     errors: &mut E,
 ) -> Result<(), ServeFault>
-    ensures ok { OnOk result (WritesAllLines config (lease_of options.entry.lease) (step_of seconds)
+    ensures ok { OnOk result
+        (WritesAllLines config (lease_of options.entry.lease) (totals_period seconds)
         (W.attempts writer.old) (W.attempts writer.new)) }
     ensures err { IfErr result (λ fault. WritesUpTo fault config (lease_of options.entry.lease)
-        (step_of seconds) (W.attempts writer.old) (W.attempts writer.new)) }
-    ensures losses { TellsText (E.contents errors.old) (E.contents errors.new) }
+        (totals_period seconds) (W.attempts writer.old) (W.attempts writer.new)) }
+    ensures losses { AppendsText (E.contents errors.old) (E.contents errors.new) }
 {
     let lease = options.lease_time();
     let step = step_of(seconds);
@@ -86,7 +87,7 @@ fn attend<H: Files + Net + Clock + AllocGlobal, W: Stream, E: Write>(
 ///
 /// # Errors
 /// `OutOfMemory`.
-fn attend_over<L: Wire + Drop, C: trdp_wire::Clock + Drop, W: Stream, E: Write>(
+fn attend_over<L: WatchedWire + Drop, C: trdp_wire::Clock + Drop, W: Stream, E: Write>(
     alloc: Global,
     config: NodeConfig,
     lease: Option<u64>,
@@ -100,7 +101,7 @@ fn attend_over<L: Wire + Drop, C: trdp_wire::Clock + Drop, W: Stream, E: Write>(
         (W.attempts writer.old) (W.attempts writer.new)) }
     ensures err { IfErr result (λ fault. WritesUpTo fault config lease step
         (W.attempts writer.old) (W.attempts writer.new)) }
-    ensures losses { TellsText (E.contents errors.old) (E.contents errors.new) }
+    ensures losses { AppendsText (E.contents errors.old) (E.contents errors.new) }
 {
     match Daemon::with_lease(alloc, config, lease, wire, clock) {
         Ok(mut daemon) => attend_lines(alloc, &mut daemon, step, u64::MAX, writer, errors),
@@ -114,7 +115,7 @@ fn attend_over<L: Wire + Drop, C: trdp_wire::Clock + Drop, W: Stream, E: Write>(
 ///
 /// # Errors
 /// `OutOfMemory`, where an allocation for a line fails.
-pub fn attend_lines<L: Wire, C: trdp_wire::Clock, W: Stream, E: Write>(
+pub fn attend_lines<L: WatchedWire, C: trdp_wire::Clock, W: Stream, E: Write>(
     alloc: Global,
     daemon: &mut Daemon<L, C>,
     step: u64,
@@ -131,7 +132,7 @@ pub fn attend_lines<L: Wire, C: trdp_wire::Clock, W: Stream, E: Write>(
         → HasServed L.takings L.gives C.readings config lease wire clock 0 daemon.old
         → IfErr result (FailsOver L.takings L.gives C.readings config lease wire clock step
         (W.attempts writer.old) (W.attempts writer.new) daemon.new) }
-    ensures losses { TellsText (E.contents errors.old) (E.contents errors.new) }
+    ensures losses { AppendsText (E.contents errors.old) (E.contents errors.new) }
 {
     let mut log = TotalsLog::new(step);
     let mut reports = Reports::new();
@@ -144,7 +145,7 @@ pub fn attend_lines<L: Wire, C: trdp_wire::Clock, W: Stream, E: Write>(
 
 /// Attends to a node until a turn begins at the reading `due` of the clock or later, and reports
 /// each second what went wrong. Returns the reading of the last turn.
-fn attend_until<L: Wire, C: trdp_wire::Clock, E: Write>(
+fn attend_until<L: WatchedWire, C: trdp_wire::Clock, E: Write>(
     daemon: &mut Daemon<L, C>,
     due: u64,
     reports: &mut Reports,
@@ -154,7 +155,7 @@ fn attend_until<L: Wire, C: trdp_wire::Clock, E: Write>(
         → (before : HasServed L.takings L.gives C.readings config lease wire clock n daemon.old)
         → ServesUntilDue L.takings L.gives C.readings config lease wire clock
         before.turns before.gives due result daemon.new }
-    ensures losses { TellsText (E.contents errors.old) (E.contents errors.new) }
+    ensures losses { AppendsText (E.contents errors.old) (E.contents errors.new) }
 {
     let mut reading = 0;
     for _look in 0..u64::MAX {
@@ -169,9 +170,9 @@ fn attend_until<L: Wire, C: trdp_wire::Clock, E: Write>(
 
 /// The microseconds from one line of totals to the next; longer than any daemon runs where the
 /// number of seconds is 0.
-#[tactic(auto, unfolding(crate::specs::Attending::step_of))]
+#[tactic(auto, unfolding(crate::specs::Attending::totals_period))]
 fn step_of(seconds: u32) -> u64
-    ensures { result ≡ step_of seconds }
+    ensures { result ≡ totals_period seconds }
 {
     if seconds == 0 {
         u64::MAX

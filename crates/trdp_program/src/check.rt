@@ -3,7 +3,7 @@
 ghost use Rattle.std.specs.Prelude.{◌≡◌, ◌≢◌, ◌⊎◌, IfErr};
 ghost use Rattle.std.specs.Io.KnownBytes.{Keeps};
 ghost use Rattle.trdp_program.specs.Checking.{ChecksProgram};
-ghost use Rattle.trdp_program.specs.Faults.{TellsText};
+ghost use Rattle.trdp_program.specs.Faults.{AppendsText};
 ghost use Rattle.trdp_program.specs.Programs.{IsConfig};
 
 use crate::faults::{SERVE_FAULT_STATUS, ServeFault};
@@ -59,7 +59,7 @@ fn write_report<W: Write>(
     folder: Option<&str>,
     writer: &mut W,
 ) -> Result<(), ServeFault>
-    ensures written { TellsText (W.contents writer.old) (W.contents writer.new) }
+    ensures written { AppendsText (W.contents writer.old) (W.contents writer.new) }
     ensures err { IfErr result (λ fault. fault ≢ ServeFault.Bind) }
 {
     let Ok(text) = report(alloc, config, taken, folder) else {

@@ -1,8 +1,8 @@
 //! The daemon, with words about its configuration.
 
 ghost use Rattle.std.specs.Prelude.{◌≡◌, ◌⊎◌};
-ghost use Rattle.trdp_program.specs.Attending.{AttendsProgram, step_of};
-ghost use Rattle.trdp_program.specs.Faults.{TellsText};
+ghost use Rattle.trdp_program.specs.Attending.{AttendsProgram, totals_period};
+ghost use Rattle.trdp_program.specs.Faults.{AppendsText};
 ghost use Rattle.trdp_program.specs.Programs.{IsConfig};
 ghost use Rattle.trdp_program.specs.Serving.{lease_of};
 
@@ -47,7 +47,8 @@ pub fn report_daemon<H: Files + Net + Clock + AllocGlobal, W: Stream, E: Write>(
 ) -> u8
     ensures status { (result ≡ 0) ⊎ (result ≡ 1) ⊎ (result ≡ 4) }
     ensures config { (result ≡ 1) ⊎ IsConfig config.now }
-    ensures attends { AttendsProgram config.now (lease_of options.entry.lease) (step_of seconds)
+    ensures attends { AttendsProgram config.now (lease_of options.entry.lease)
+        (totals_period seconds)
         (W.attempts writer.old) (W.attempts writer.new)
         (E.contents errors.old) (E.contents errors.new) result }
     ensures quiet { result ≡ 1 → W.attempts writer.new ≡ W.attempts writer.old }
@@ -92,7 +93,7 @@ fn tell_ports<H: Files + Net + AllocGlobal, E: Write>(
     status: u8,
     errors: &mut E,
 )
-    ensures { TellsText (E.contents errors.old) (E.contents errors.new) }
+    ensures { AppendsText (E.contents errors.old) (E.contents errors.new) }
 {
     if status != 0 {
         let alloc = rt.alloc();

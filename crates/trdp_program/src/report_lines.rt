@@ -2,7 +2,7 @@
 
 use std::fmt;
 use std::net::{Ipv4Addr, SocketAddrV4};
-use trdp_wire::{Missing, Port, Refusal, Unread};
+use trdp_wire::{GiveRefusal, Missing, Port, Unread};
 
 /// The line about gives that were lost since the line before.
 #[derive(Clone, Copy)]
@@ -10,7 +10,7 @@ pub(crate) struct LostLine {
     /// How many.
     pub(crate) count: u64,
     /// The latest of them; None where the wire keeps none.
-    pub(crate) latest: Option<Refusal>,
+    pub(crate) latest: Option<GiveRefusal>,
 }
 
 impl fmt::Display for LostLine {
@@ -18,7 +18,7 @@ impl fmt::Display for LostLine {
         let count = self.count;
         write!(f, "lost {count} since the last line")?;
         match self.latest {
-            Some(Refusal { port, to, fault }) => {
+            Some(GiveRefusal { port, to, fault }) => {
                 let place = SocketAddrV4::new(Ipv4Addr::from_bits(to.ip.0), to.port);
                 let from = PortText(port);
                 write!(f, ", the latest from {from} to {place}: {fault}")

@@ -1,6 +1,6 @@
 //! What a daemon reports on the error stream while it serves.
 
-ghost use Rattle.trdp_program.specs.Faults.{TellsText};
+ghost use Rattle.trdp_program.specs.Faults.{AppendsText};
 
 use crate::report_lines::{LostLine, MissingLine, UnreadLine};
 use std::fmt::{Display, InlineText, Write as _};
@@ -32,7 +32,7 @@ pub(crate) struct Reports {
 }
 
 impl Reports {
-    ghost use Rattle.trdp_program.specs.Faults.{TellsText};
+    ghost use Rattle.trdp_program.specs.Faults.{AppendsText};
 
     /// The reports of a daemon that has taken no turn.
     pub(crate) fn new() -> Reports {
@@ -60,7 +60,7 @@ impl Reports {
         reading: u64,
         errors: &mut E,
     )
-        ensures { TellsText (E.contents errors.old) (E.contents errors.new) }
+        ensures { AppendsText (E.contents errors.old) (E.contents errors.new) }
     {
         if reading < self.due {
             return;
@@ -73,7 +73,7 @@ impl Reports {
 
     /// Writes a line if gives were lost since the line before.
     fn tell_lost<L: Wire, C: Clock, E: Write>(&mut self, daemon: &Daemon<L, C>, errors: &mut E)
-        ensures { TellsText (E.contents errors.old) (E.contents errors.new) }
+        ensures { AppendsText (E.contents errors.old) (E.contents errors.new) }
     {
         let lost = daemon.totals().lost;
         if lost > self.lost {
@@ -89,7 +89,7 @@ impl Reports {
 
     /// Writes a line if takes failed since the line before.
     fn tell_unread<L: Wire, C: Clock, E: Write>(&mut self, daemon: &Daemon<L, C>, errors: &mut E)
-        ensures { TellsText (E.contents errors.old) (E.contents errors.new) }
+        ensures { AppendsText (E.contents errors.old) (E.contents errors.new) }
     {
         let unread = daemon.totals().unread;
         if unread > self.unread {
@@ -105,7 +105,7 @@ impl Reports {
 
     /// Writes a line if more files of control sockets are gone than before.
     fn tell_missing<L: Wire, C: Clock, E: Write>(&mut self, daemon: &Daemon<L, C>, errors: &mut E)
-        ensures { TellsText (E.contents errors.old) (E.contents errors.new) }
+        ensures { AppendsText (E.contents errors.old) (E.contents errors.new) }
     {
         let missing = daemon.wire().missing();
         self.missing = self.missing.min(missing.count);
@@ -117,7 +117,7 @@ impl Reports {
     /// Writes a line, and before it the end of a line that was cut. Returns whether all was
     /// written.
     fn tell<D: Display + Drop, E: Write>(&mut self, text: D, errors: &mut E) -> bool
-        ensures { TellsText (E.contents errors.old) (E.contents errors.new) }
+        ensures { AppendsText (E.contents errors.old) (E.contents errors.new) }
     {
         let end = if self.is_cut { "\n" } else { "" };
         let mut line = InlineText::<LINE_ROOM>::new();

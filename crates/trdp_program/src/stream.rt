@@ -1,7 +1,7 @@
 //! A stream of text that never makes its writer wait.
 
 ghost use Rattle.std.specs.Prelude.{[], ◌∷◌, ◌≤◌, length};
-ghost use Rattle.trdp_wire.specs.Told.{TellsMore};
+ghost use Rattle.trdp_base.specs.Reported.{TellsMore};
 ghost use Rattle.trdp_program.specs.Streams.{attempt};
 
 use libc::net::{POLLOUT, poll};

@@ -3,7 +3,7 @@
 ghost use Rattle.std.specs.Prelude.{◌≡◌, ◌++◌, true, codes, IfSome};
 ghost use Rattle.std.specs.Io.KnownBytes.{Appends};
 ghost use Rattle.trdp_text.specs.ConfigNames.{text_of_config_fault};
-ghost use Rattle.trdp_program.specs.Faults.{TellsFault, TellsFaultFirst, TellsText};
+ghost use Rattle.trdp_program.specs.Faults.{TellsFault, TellsFaultFirst, AppendsText};
 
 use std::alloc::{AllocError, Global};
 use std::fmt::{Display, InlineText, Write as _};
@@ -49,7 +49,7 @@ pub(crate) fn tell_config_fault<E: Write>(
 
 /// Writes a text, or nothing where an allocation for it failed.
 pub(crate) fn tell_text<E: Write>(text: Result<String, AllocError>, errors: &mut E)
-    ensures { TellsText (E.contents errors.old) (E.contents errors.new) }
+    ensures { AppendsText (E.contents errors.old) (E.contents errors.new) }
 {
     if let Ok(text) = text {
         // What standard error does with the text changes nothing.

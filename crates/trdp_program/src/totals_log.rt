@@ -2,9 +2,9 @@
 
 ghost use Rattle.std.specs.Prelude.{◌≡◌, ◌+◌, ◌-◌, ◌^◌, ◌++◌, [], ◌∷◌, List, take, min, ℕ};
 ghost use Rattle.std.specs.Prelude.{OnOk, IfOk, IfErr, false, string_bytes};
-ghost use Rattle.trdp_wire.specs.Told.{TellsMore};
+ghost use Rattle.trdp_base.specs.Reported.{TellsMore};
 ghost use Rattle.trdp_program.specs.Attending.{text_of_line};
-ghost use Rattle.trdp_program.specs.Streams.{attempt, is_cut_behind, line_end};
+ghost use Rattle.trdp_program.specs.Streams.{attempt, is_cut_behind, cut_line_end};
 
 use crate::faults::ServeFault;
 use crate::serve::TotalsText;
@@ -57,7 +57,7 @@ impl TotalsLog {
         writer: &mut W,
     ) -> Result<(), ServeFault>
         ensures ok { OnOk result ((count : ℕ) × (bytes : List ℕ)
-            × (bytes ≡ line_end self.old.is_cut ++ text_of_line totals)
+            × (bytes ≡ cut_line_end self.old.is_cut ++ text_of_line totals)
             × TellsMore (W.attempts writer.old) (W.attempts writer.new) (attempt bytes count ∷ [])
             × (self.new.is_cut ≡ is_cut_behind self.old.is_cut (take count bytes))) }
         ensures due { OnOk result (self.new.due ≡ min (reading + self.old.step) (2 ^ 64 - 1)) }
@@ -82,7 +82,7 @@ impl TotalsLog {
 /// `AllocError` where an allocation fails.
 fn line_of(alloc: Global, is_cut: bool, totals: Totals) -> Result<String, AllocError>
     ensures { IfOk result (λ line. string_bytes line
-        ≡ line_end is_cut ++ text_of_line totals) }
+        ≡ cut_line_end is_cut ++ text_of_line totals) }
 {
     let end = line_end(is_cut);
     format!(in alloc; "{end}{}\n", TotalsText(totals))
@@ -90,7 +90,7 @@ fn line_of(alloc: Global, is_cut: bool, totals: Totals) -> Result<String, AllocE
 
 /// What ends a line that was cut; nothing where it is whole.
 fn line_end(is_cut: bool) -> &'static str
-    ensures { result.now ≡ line_end is_cut }
+    ensures { result.now ≡ cut_line_end is_cut }
 {
     if is_cut { "\n" } else { "" }
 }

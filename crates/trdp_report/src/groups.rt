@@ -1,6 +1,6 @@
 //! Which groups of a node no link of this machine has joined.
 
-use crate::meaning::shown;
+use crate::address::shown;
 use std::alloc::{AllocError, Global};
 use std::fmt::Write;
 use std::fs;

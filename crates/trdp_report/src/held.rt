@@ -10,7 +10,7 @@ use trdp_controls::HeldPath;
 
 /// The ports that the system granted.
 #[derive(Drop)]
-pub(crate) struct Held {
+pub(crate) struct HeldPorts {
     /// The UDP ports.
     sockets: Vec<UdpSocket>,
     /// The paths of control sockets.
@@ -19,13 +19,13 @@ pub(crate) struct Held {
     registries: Vec<Registry>,
 }
 
-impl Held {
+impl HeldPorts {
     /// Nothing yet, and room for that many ports.
     ///
     /// # Errors
     /// `AllocError` where an allocation fails.
-    pub(crate) fn with_room(alloc: Global, ports: usize) -> Result<Held, AllocError> {
-        Ok(Held {
+    pub(crate) fn with_room(alloc: Global, ports: usize) -> Result<HeldPorts, AllocError> {
+        Ok(HeldPorts {
             sockets: Vec::with_capacity(alloc, ports)?,
             paths: Vec::with_capacity(alloc, ports)?,
             registries: Vec::with_capacity(alloc, ports)?,

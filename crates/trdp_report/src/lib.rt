@@ -15,6 +15,7 @@
 //! breaks none. Tests show which words come, and at which place of the file.
 #![tactic(auto)]
 
+mod address;
 mod groups;
 mod held;
 mod meaning;

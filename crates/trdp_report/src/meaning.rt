@@ -1,9 +1,9 @@
 //! What a configuration means, in a screen.
 
+use crate::address::shown;
 use crate::ports::control_site;
 use std::alloc::AllocError;
 use std::fmt::Write;
-use std::net::Ipv4Addr;
 use trdp_base::{Ip, Quotas};
 use trdp_dataset::NodeConfig;
 
@@ -16,11 +16,6 @@ const KINDS: [&str; 6] = [
     "callers",
     "repliers",
 ];
-
-/// An address as it is printed.
-pub(crate) fn shown(ip: Ip) -> Ipv4Addr {
-    Ipv4Addr::from_bits(ip.0)
-}
 
 /// Adds what a configuration means: a line for the node, one for each group, one for each slot,
 /// one for the spare control ports, and one for each dataset. The ports for lines are files of a

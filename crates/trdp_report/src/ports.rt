@@ -1,6 +1,6 @@
 //! The ports of a node, by the keys that name them.
 
-use crate::meaning::shown;
+use crate::address::shown;
 use std::alloc::{AllocError, Global};
 use std::fmt;
 use std::net::SocketAddrV4;

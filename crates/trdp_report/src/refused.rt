@@ -1,6 +1,6 @@
 //! Which port of a node the system refuses.
 
-use crate::held::Held;
+use crate::held::HeldPorts;
 use crate::ports::{NamedPort, collision_at, ports_of};
 use std::alloc::{AllocError, Global};
 use std::fmt::Write;
@@ -23,7 +23,7 @@ pub fn refused_ports<R: Files + Net>(
     folder: Option<&str>,
 ) -> Result<String, AllocError> {
     let ports = ports_of(alloc, config, folder)?;
-    let mut held = Held::with_room(alloc, ports.len())?;
+    let mut held = HeldPorts::with_room(alloc, ports.len())?;
     let text = refusals(rt, alloc, &ports, &mut held);
     held.give_back(rt);
     text
@@ -38,7 +38,7 @@ fn refusals<R: Files + Net>(
     rt: &R,
     alloc: Global,
     ports: &[NamedPort],
-    held: &mut Held,
+    held: &mut HeldPorts,
 ) -> Result<String, AllocError> {
     let mut text = String::new(alloc);
     for (index, port) in ports.iter().enumerate() {

@@ -1,6 +1,6 @@
 //! What the author of a configuration may not have meant.
 
-use crate::meaning::shown;
+use crate::address::shown;
 use crate::ports::{NamedPort, Site, collision_at, ports_of};
 use std::alloc::{AllocError, Global};
 use std::fmt::Write;

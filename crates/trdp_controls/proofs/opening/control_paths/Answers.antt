@@ -1,8 +1,8 @@
-use Rattle.std.proofs.Common.{◌<◌, ◌+◌, arith, drop, length}
+use Rattle.std.proofs.Common.{◌<◌, ◌+◌, ◌∙◌, arith, drop, length}
 use Rattle.std.specs.List.{flat_map}
 use Rattle.trdp_wire.specs.Ports.{control_numbers}
 use Rattle.trdp_wire.proofs.ControlPortLemmas.{numbers_count}
-use Rattle.trdp_controls.specs.Folders.{file_unless_0, number_unless_0}
+use Rattle.trdp_controls.specs.Folders.{file_unless_0, path_unless_0}
 use Rattle.trdp_controls.proofs.ListenLemmas.{listened_more, listened_next, listened_stops}
 use Rattle.trdp_controls.proofs.ListenLemmas.{next_number, next_port, stops_with}
 use Rattle.trdp_controls.proofs.opening.control_paths.Goals as goal
@@ -47,6 +47,8 @@ loop-slot-preserved g c =
           (flat_map file_unless_0 (drop (slot + 1) numbers)) _ _ _
           (listened_next files numbers slot number _ _ here c.loop-slot.invariant.0)
           c.in_ok-push_path.ensures.listens,
-      next_number number_unless_0 _ _ _ numbers slot number here c.in_ok-push_path.ensures.pushed
+      next_number (path_unless_0 (g.F.Folder.path c.args.folder.now)) _ _ _ numbers slot number here
+          (rw c.loop-slot.invariant.2 at c.in_ok-push_path.ensures.pushed)
           c.loop-slot.invariant.1,
+      c.in_ok-push_path.ensures.stays ∙ c.loop-slot.invariant.2,
     )

@@ -1,5 +1,5 @@
 use Rattle.std.proofs.Common.{◌≡◌, replicate}
-use Rattle.trdp_lines.specs.OperatorPaths.{free_seat}
+use Rattle.trdp_lines.specs.Seats.{free_seat}
 use Rattle.trdp_lines.proofs.seats.free_seats_in.Given as goal
 
 abbrev pub invariant-loop : goal.invariant-loop

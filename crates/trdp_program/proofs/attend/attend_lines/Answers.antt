@@ -1,6 +1,6 @@
 use Rattle.std.proofs.Common.{◌≡◌, ◌+◌, ◌-◌, ◌^◌, ◌++◌, ◌∙◌, ap, ℕ, min, subst, arith}
 use Rattle.trdp_program.specs.Attending.{FailsOver, ServesUntilDue, WritesLinesOver, text_of_line}
-use Rattle.trdp_program.specs.Streams.{line_end}
+use Rattle.trdp_program.specs.Streams.{cut_line_end}
 use Rattle.trdp_program.proofs.AttendLemmas.{lines_none, lines_more, lines_fail, when_err}
 use Rattle.trdp_program.proofs.LookLemmas.{text_none, text_both}
 use Rattle.trdp_program.proofs.attend.attend_lines.Goals as goal
@@ -28,7 +28,8 @@ loop-line-preserved g c =
           before.served.served.gives d c.attend_until-reading.result
           c.attend_until-reading.new.daemon) c.due.ensures on in
           lines_more wrote.0 before come
-          (wrote.2 ∙ ap (λ t. line_end c.loop-line.log.is_cut ++ text_of_line t) c.totals.ensures)
+          (wrote.2 ∙ ap
+          (λ t. cut_line_end c.loop-line.log.is_cut ++ text_of_line t) c.totals.ensures)
           wrote.3 wrote.4
           (c.in_ok-write.ensures.due
           ∙ ap (λ s. min (c.attend_until-reading.result + s) (2 ^ 64 - 1))

@@ -1,7 +1,7 @@
 use Rattle.std.proofs.Common.{ℕ, Option}
 use Rattle.trdp_dataset.specs.Configs.{ConfigModel}
 use Rattle.trdp_daemon.specs.Daemons.{HasServed}
-use Rattle.trdp_program.specs.Faults.{TellsText}
+use Rattle.trdp_program.specs.Faults.{AppendsText}
 use Rattle.trdp_program.proofs.LookLemmas.{LooksSoFar}
 use Rattle.trdp_program.proofs.attend.attend_until.Given as goal
 
@@ -15,4 +15,4 @@ invariant-loop-look g l = ((config : ConfigModel) (lease : Option ℕ) (wire : g
     l.fn.daemon)
     → LooksSoFar g.L.Wire.takings g.L.Wire.gives g.C.Clock.readings config lease wire clock
     before.turns before.gives l.fn.due l._look l.reading l.daemon)
-    × TellsText (g.E.Write.contents l.fn.errors) (g.E.Write.contents l.errors)
+    × AppendsText (g.E.Write.contents l.fn.errors) (g.E.Write.contents l.errors)

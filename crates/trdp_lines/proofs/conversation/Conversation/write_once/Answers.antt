@@ -2,7 +2,7 @@ use Rattle.std.proofs.Common.{[], ◌∷◌, ap, refl, sym, ◌∙◌}
 use Rattle.trdp_lines.specs.Connections.{went_count, writing_of}
 use Rattle.trdp_lines.specs.Outgoings.{OutgoingState}
 use Rattle.trdp_lines.specs.OutgoingRuns.{Took}
-use Rattle.trdp_lines.proofs.HandingLemmas.{tells_nothing}
+use Rattle.trdp_lines.proofs.BetweenLemmas.{tells_nothing}
 use Rattle.trdp_lines.proofs.WritingLemmas.{none_waits}
 use Rattle.trdp_lines.proofs.conversation.Conversation.write_once.Goals as goal
 

@@ -1,5 +1,6 @@
 use Rattle.std.proofs.Common.{◌≡◌, [], ◌∷◌, length, drop, sym, subst, arith}
-use Rattle.trdp_lines.specs.Connections.{Reading, Reads, TellsMore}
+use Rattle.trdp_base.specs.Reported.{TellsMore}
+use Rattle.trdp_lines.specs.Connections.{Reading, Reads}
 use Rattle.trdp_lines.proofs.IntakeLemmas.{read_between, grown_by, longer_by, still_in_order}
 use Rattle.trdp_lines.proofs.IntakeLemmas.{came_at_most}
 use Rattle.trdp_lines.proofs.intake.Intake.fill.Goals as goal

@@ -1,0 +1,20 @@
+use Rattle.std.proofs.Common.{◌≡◌, [], length, arith}
+use Rattle.trdp_lines.proofs.AskingLemmas.{asks_one, if_none_then}
+use Rattle.trdp_lines.proofs.StepLemmas.{finds_next, goes_next}
+use Rattle.trdp_lines.proofs.path.Path.ask.Goals as goal
+
+pub returns-clause-finds : goal.returns-clause-finds
+returns-clause-finds g c =
+    let same : length c.next_text.new.room ≡ length c.args.room.now = omega arith in
+    rw (← c.self.view_is, ← same) (finds_next g.P.Policy.rule g.C.Connections.calls _
+    c.listen.new.self c.next_text-2.new.self _ c.next_text-2.result c.next_text-2.new.room
+    (goes_next g.P.Policy.rule g.C.Connections.calls _ c.next_text.new.self c.listen.new.self []
+    c.in_default.ensures.finds c.listen.ensures.goes) c.next_text-2.ensures.finds)
+
+pub returns-clause-asked : goal.returns-clause-asked
+returns-clause-asked g c = rw (← c.self.view_is) (if_none_then c.next_text-2.result
+    (λ ready. asks_one c.args.place _ _ _ _ _ c.next_text.new.self.seats c.listen.new.self.seats
+    c.next_text-2.new.self.seats _ c.next_text.new.self.waiting c.listen.new.self.waiting _
+    c.next_text.ensures.follows c.next_text.ensures.unwaited c.listen.ensures.unwaited
+    c.listen.ensures.asked c.next_text-2.ensures.follows ready c.next_text.ensures.others
+    c.listen.ensures.others c.next_text-2.ensures.others) c.next_text-2.ensures.ready)

@@ -1,0 +1,43 @@
+use Rattle.std.proofs.Common.{◌≡◌, ◌∙◌, [], Some, inl, inr, arith, length, refl}
+use Rattle.trdp_lines.proofs.AskingLemmas.{asks_more, asks_none, asks_within}
+use Rattle.trdp_lines.proofs.StepLemmas.{finds_next, goes_next, goes_none}
+use Rattle.trdp_lines.proofs.path.Path.next_from.Goals as goal
+
+pub loop-place-init : goal.loop-place-init
+loop-place-init g c = record {
+  goes = goes_none g.P.Policy.rule g.C.Connections.calls _;
+  asked = asks_none c.args.first _ _ _;
+  unwaited = λ none. none;
+  kept = refl;
+  order = inl (omega arith);
+}
+
+pub loop-place-preserved : goal.loop-place-preserved
+loop-place-preserved g c =
+    let before = c.loop-place.invariant in
+    let asked = c.in_default.ensures in
+    record {
+      goes = goes_next g.P.Policy.rule g.C.Connections.calls c.args.self.now c.loop-place.self
+          c.ask.new.self [] before.goes asked.finds;
+      asked = asks_more c.args.first c.loop-place.place _ _ _ c.args.self.now.seats
+          c.loop-place.self.seats c.ask.new.self.seats c.args.self.now.waiting
+          c.loop-place.self.waiting (omega arith) before.unwaited before.asked asked.asked;
+      unwaited = λ none. asked.unwaited (before.unwaited none);
+      kept = asked.kept ∙ before.kept;
+      order = inr (omega arith);
+    }
+
+pub returns-in-Some-clause-finds : goal.returns-in-Some-clause-finds
+returns-in-Some-clause-finds g c =
+    let same : length c.loop-place.room ≡ length c.args.room.now = omega arith in
+    rw (← same) (finds_next g.P.Policy.rule g.C.Connections.calls c.args.self.now
+    c.loop-place.self c.ask.new.self (length c.loop-place.room) (Some c.in-Some.found)
+    c.ask.new.room c.loop-place.invariant.goes c.in-Some.ensures.finds)
+
+pub returns-clause-asked : goal.returns-clause-asked
+returns-clause-asked g c = asks_within c.args.first c.loop-place.place c.args.end _ _
+    c.args.self.now.seats c.loop-place.self.seats c.args.self.now.waiting (omega arith)
+    (elim c.loop-place.invariant.order [
+      | inl empty ↦ inr empty
+      | inr some ↦ inl (omega (arith, some))
+    ]) c.loop-place.invariant.asked

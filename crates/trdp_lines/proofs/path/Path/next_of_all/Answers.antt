@@ -1,0 +1,19 @@
+use Rattle.std.proofs.Common.{◌≡◌, length, arith}
+use Rattle.trdp_lines.specs.Seats.{seats_at}
+use Rattle.trdp_lines.proofs.AskingLemmas.{asks_round, if_none_then}
+use Rattle.trdp_lines.proofs.StepLemmas.{finds_next}
+use Rattle.trdp_lines.proofs.path.Path.next_of_all.Goals as goal
+
+pub returns-clause-finds : goal.returns-clause-finds
+returns-clause-finds g c =
+    let same : length c.next_from.new.room ≡ length c.args.room.now = omega arith in
+    rw (← same) (finds_next g.P.Policy.rule g.C.Connections.calls _ c.next_from.new.self
+    c.next_from-2.new.self _ c.next_from-2.result c.next_from-2.new.room
+    c.in_default.ensures.finds c.next_from-2.ensures.finds)
+
+pub returns-clause-asked : goal.returns-clause-asked
+returns-clause-asked g c = if_none_then c.next_from-2.result (asks_round c.self.inside.next
+    (seats_at g.P.Policy.rule) _ _ _ _ c.next_from.new.self.seats c.next_from-2.new.self.seats _
+    c.next_from.new.self.waiting c.self.invariant.first c.next_from.ensures.unwaited
+    (rw (c.seats.ensures, c.rule.ensures) at c.in_default.ensures.asked))
+    c.next_from-2.ensures.asked
