@@ -4,18 +4,16 @@
  *     library records       prints how long the function that gets a record takes, after a moment with 4,096 records
  *     library put COUNT     makes that many calls of one kind, for callgrind
  *     library pd COUNT
- *     library stack         prints how many bytes of stack the calls of each kind take at most
  *     library memory        opens a node of one slot with eight objects; pool.c tells what that takes */
 #define _GNU_SOURCE
 #include "../clients/c/trdp_node.h"
 
-#include <pthread.h>
 #include <stdio.h>
 #include <stdlib.h>
 #include <string.h>
 #include <time.h>
 
-enum { ROUNDS = 20, CALLS = 100000, STACK = 1 << 20, PAINT = 0x5a, SLOTS = 16, OBJECTS = 256 };
+enum { ROUNDS = 20, CALLS = 100000, SLOTS = 16, OBJECTS = 256 };
 
 size_t pool_most(void);
 
@@ -140,97 +138,10 @@ static void open_node(void)
     line("call 0 subscribe 100 0 0.0.0.0 0.0.0.0 0.0.0.0 0 0 0 zero");
 }
 
-/* What is measured on a stack of its own; the node was opened on another one, except by the second one. */
-static void nothing(void)
-{
-}
-
-static void opens(void)
-{
-    struct trdp_node_fault fault;
-    trdp_node_close(&node);
-    if (trdp_node_open(&node, config, sizeof config - 1, &fault) != TRDP_NODE_OK) stop(fault.text);
-}
-
-static void lines(void)
-{
-    one_line();
-    line("call 0 get 2");
-    line("call 0 request 300 00000000-0000-0000-0000-000000000001 2 1000000 - - 0 0 10.0.0.2:17225 0d");
-    line("md 10.0.0.2:17225 10.0.0.1:17225 0a");
-    line("moment 2000000");
-    line("addslot 1 1 1 1 1 1");
-}
-
-static void steps(void)
-{
-    struct trdp_node_event event = { .what = TRDP_NODE_MOMENT, .moment = 4000000 };
-    struct trdp_node_done done;
-    one_put();
-    next_telegram(0);
-    one_pd();
-    for (; event.what <= TRDP_NODE_RESET; event.what++) trdp_node_step(&node, &event, value, sizeof value, &done);
-}
-
-static void tells(void)
-{
-    struct trdp_node_record record;
-    struct trdp_node_state state;
-    struct trdp_node_text text;
-    trdp_node_record(&node, 0, &record);
-    trdp_node_state(&node, &state);
-    trdp_node_text(&node, &text);
-}
-
-static void closes(void)
-{
-    trdp_node_close(&node);
-}
-
-static void *use_stack(void *it)
-{
-    (*(void (**)(void))it)();
-    return NULL;
-}
-
-/* How many bytes of a painted stack a function has written to, with what a thread itself writes there. */
-static size_t stack_bytes(void (*function)(void))
-{
-    static uint8_t stack[STACK] __attribute__((aligned(4096)));
-    pthread_attr_t attributes;
-    pthread_t thread;
-    size_t untouched = 0;
-    memset(stack, PAINT, sizeof stack);
-    pthread_attr_init(&attributes);
-    pthread_attr_setstack(&attributes, stack, sizeof stack);
-    if (pthread_create(&thread, &attributes, use_stack, &function)) stop("no thread");
-    pthread_join(thread, NULL);
-    while (untouched < sizeof stack && stack[untouched] == PAINT) untouched++;
-    return sizeof stack - untouched;
-}
-
-/* Prints what each kind of call takes. */
-static void print_stacks(void)
-{
-    static const struct { const char *name; void (*function)(void); } kinds[] = {
-        { "open", opens }, { "line", lines }, { "step", steps }, { "record", tells }, { "close", closes }
-    };
-    size_t least = stack_bytes(nothing);
-    for (size_t i = 0; i < sizeof kinds / sizeof *kinds; i++) {
-        trdp_node_close(&node);
-        open_node();
-        printf("%s %lu\n", kinds[i].name, (unsigned long)(stack_bytes(kinds[i].function) - least));
-    }
-}
-
 int main(int count, char **words)
 {
     const char *word = count > 1 ? words[1] : "";
     unsigned long calls = count > 2 ? strtoul(words[2], NULL, 10) : 0;
-    if (!strcmp(word, "stack")) {
-        print_stacks();
-        return 0;
-    }
     if (!strcmp(word, "memory")) {
         struct trdp_node_fault fault;
         if (trdp_node_open(&node, config, sizeof config - 1, &fault) != TRDP_NODE_OK) stop(fault.text);

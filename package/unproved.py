@@ -20,14 +20,12 @@ import tempfile
 TOP = pathlib.Path(__file__).resolve().parent.parent
 # What the program says of its proof, and what it says without one.
 CLAIM, NO_CLAIM = "proved with logic {LOGIC}", "not proved"
-# clang is called with -O0: for the program, and then for one that checks its accesses. The latter isn't kept, so that
-# it is compiled as fast as possible.
+# The kit has clang compile the program once, with -O0 and with checks of each access that a sanitizer makes.
 CLANG = """#!/bin/sh
-case " $* " in *" -fsanitize=address "*) level=-O0 ;; *) level=-O2 ;; esac
 for word; do
     shift
     case $word in
-        -O0) set -- "$@" "$level" ;;
+        -O0) set -- "$@" -O2 ;;
         -fsanitize=address) ;;
         *) set -- "$@" "$word" ;;
     esac

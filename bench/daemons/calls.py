@@ -37,7 +37,7 @@ from daemons.traffic import FLOWS, SLOW, Flow, Source, flooded, flow, sent
 SLOTS = (1, 16)
 NAMING = Flow("200 a second", 1, 0, 1 / 200)
 NAMING_SECONDS = 1.0
-CALLS, TIMES = 3.2, 1.1                           # the goals
+CALLS, TIMES = 3.1, 1.1                           # the goals
 FLOODED = "flooded"
 
 
@@ -131,9 +131,9 @@ def print_goals(rows: Mapping[tuple[str, int], Row]) -> None:
         return next(it.sides[PROGRAM] for it in rows[name, slots].figures if it.figure.key == key)
 
     few, many = min(SLOTS), max(SLOTS)
-    calls = max(figure("calls", SLOW.name, slots) for slots in SLOTS)
+    calls = max(figure("calls", *of) for of in rows if FLOODED not in of)
     if calls == calls:
-        print(f"at most {calls:.2f} calls at {SLOW.name} (goal {CALLS}): {'met' if calls <= CALLS else 'NOT MET'}")
+        print(f"at most {calls:.2f} calls (goal {CALLS}): {'met' if calls <= CALLS else 'NOT MET'}")
     for it in FLOWS:
         times = figure("us", it.name, many) / figure("us", it.name, few)
         if times == times:

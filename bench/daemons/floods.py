@@ -7,7 +7,8 @@ they take turns: one program runs, and the other one and its flood are stopped. 
 both alike.
 
 With `--placed apart` the caller, the node and the flood each have a processor of their own, if there are as many; with
-`--placed free` the system places them.
+`--placed free` the system places them. With --real-time all three run under SCHED_FIFO, and the machine needs one more
+processor for everything else.
 """
 from __future__ import annotations
 
@@ -15,11 +16,12 @@ import argparse
 import contextlib
 import os
 import signal
+import sys
 from collections.abc import Callable, Iterator, Mapping, Sequence
 from dataclasses import dataclass
 from functools import partial
 
-from daemons.nodes import FLOODS, Node
+from daemons.nodes import FLOODS, PROCESSORS, Node, go_first
 from daemons.options import Figures, Programs, Subcommand, positive
 from daemons.report import OTHER, PROGRAM, Row, head, ordered, row_of, sums, time_figures
 from daemons.rounds import Rounds, measured_rounds
@@ -35,13 +37,14 @@ Times = Mapping[str, list[float]]
 
 @dataclass(frozen=True)
 class Beside:
-    """What floods each node, and how: whether caller, node and flood are kept apart, the node's slots, and the
-    processes that send."""
+    """What floods each node, and how: whether caller, node and flood are kept apart, the node's slots, the processes
+    that send, and whether all run under SCHED_FIFO."""
 
     flooded: str
     is_apart: bool = True
     slots: int = 2
     processes: int = 1
+    is_real_time: bool = False
 
 
 @dataclass(frozen=True)
@@ -83,7 +86,8 @@ class Contender:
 @contextlib.contextmanager
 def contender(program: str, it: Beside) -> Iterator[Contender]:
     """A program's node and its flood, stopped. Both are killed at the end."""
-    with beside(it.flooded, program, slots=it.slots, processes=it.processes, is_apart=it.is_apart) as (node, children):
+    with beside(it.flooded, program, slots=it.slots, processes=it.processes, is_apart=it.is_apart,
+                is_real_time=it.is_real_time) as (node, children):
         made = Contender(node, children)
         made.stop()
         yield made
@@ -131,14 +135,25 @@ def both_callers(node: Node) -> Times:
     return {"sleeps": answer_times(node, brief_while, CALLS), "looks": awake_times(node, CALLS)}
 
 
+def go_first_apart(given: argparse.Namespace) -> None:
+    """Puts this process under SCHED_FIFO. Ends the script if node and flood would leave no processor to the others."""
+    if given.placed != APART or given.processes + 2 >= len(PROCESSORS):
+        sys.exit("--real-time needs --placed apart, and one processor more than caller, node and flood take")
+    go_first()
+
+
 def measure(given: argparse.Namespace, programs: Programs) -> Figures:
     """Measures all rows, and prints them."""
+    if given.real_time:
+        go_first_apart(given)
     kinds = Kinds(("sleeps", "looks"), both_callers, lambda nodes: None)
     print(head(list(programs)))
-    floods = [Beside(flooded, given.placed == APART, given.slots, given.processes) for flooded in FLOODS]
+    floods = [Beside(flooded, given.placed == APART, given.slots, given.processes, given.real_time)
+              for flooded in FLOODS]
     rows = {it.flooded: measured_rows(programs, it, kinds, given.rounds) for it in floods}
     return {"rounds": sums([row for of in rows.values() for row in list(of.values())[:1]]), "placed": given.placed,
-            "slots": given.slots, "processes": given.processes, "rows": result_rows(rows, "caller")}
+            "slots": given.slots, "processes": given.processes, "real_time": given.real_time,
+            "rows": result_rows(rows, "caller")}
 
 
 def add_options(parser: argparse.ArgumentParser) -> None:
@@ -148,6 +163,8 @@ def add_options(parser: argparse.ArgumentParser) -> None:
     parser.add_argument("--slots", type=positive, default=2, help="slots of the node (default: %(default)s)")
     parser.add_argument("--processes", type=positive, default=1,
                         help="processes that send to the port (default: %(default)s)")
+    parser.add_argument("--real-time", action="store_true",
+                        help="run the caller, the node and the flood under SCHED_FIFO, apart")
 
 
 FLOODED = Subcommand("floods", "how soon a daemon answers while a port is flooded", __doc__ or "", 20, add_options,

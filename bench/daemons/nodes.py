@@ -45,7 +45,13 @@ def begin_program(parent: int, is_real_time: bool) -> None:
     end_with(parent)
     LIBC.prctl(SET_TIMERSLACK, SLACK, 0, 0, 0)
     if is_real_time:
-        os.sched_setscheduler(0, os.SCHED_FIFO, os.sched_param(PRIORITY))
+        put_first([0])
+
+
+def put_first(processes: Sequence[int]) -> None:
+    """Puts these processes under SCHED_FIFO."""
+    for process in processes:
+        os.sched_setscheduler(process, os.SCHED_FIFO, os.sched_param(PRIORITY))
 
 
 def go_first() -> None:

@@ -131,12 +131,13 @@ def compared(rounds: Sequence[Mapping[str, Sample]], names: Sequence[str], figur
 
 
 def time_figures(of: Callable[[Sample], Sequence[float]], words: str = "", key: str = "") -> list[Figure[Sample]]:
-    """The figures of times in microseconds: the median, the 99th percentile, and the number of times."""
+    """The figures of times in microseconds: the median, the 90th and the 99th percentile, and the number of times."""
     def part_of(part: float) -> Callable[[Sequence[Sample]], float]:
         return lambda rounds: share([time for it in rounds for time in of(it)], part)
 
     start, path = (f"{words}, " if words else ""), (f"{key}." if key else "")
     return [Figure(f"{path}median_us", f"{start}median", "us", 1, part_of(0.5)),
+            Figure(f"{path}p90_us", f"{start}90 %", "us", 1, part_of(0.9)),
             Figure(f"{path}p99_us", f"{start}99 %", "us", 1, part_of(0.99)),
             Figure(f"{path}samples", f"{start}how many", "", 0, lambda rounds: sum(len(of(it)) for it in rounds),
                    differs=False)]

@@ -10,7 +10,7 @@ import time
 from collections.abc import Callable, Iterator, Mapping, Sequence
 from dataclasses import dataclass
 
-from daemons.nodes import DAEMON, FLOODS, HOST, PATIENCE, Node, Started, apart, flooding
+from daemons.nodes import DAEMON, FLOODS, HOST, PATIENCE, Node, Started, apart, flooding, put_first
 
 FIRST = 30                                        # calls of a node that has just begun, which do not count
 SO_TIMESTAMPNS = 35                               # Linux: when a datagram came, in nanoseconds
@@ -155,11 +155,14 @@ def attended(node: Started, sink: socket.socket, cycle: float, seconds: float, c
 
 @contextlib.contextmanager
 def beside(flooded: str, program: str, kind: Sequence[str] = DAEMON, slots: int = 2, processes: int = 1,
-           is_apart: bool = False) -> Iterator[tuple[Node, list[int]]]:
+           is_apart: bool = False, is_real_time: bool = False) -> Iterator[tuple[Node, list[int]]]:
     """A node with that many slots, after its first calls, and the numbers of the processes that flood one of its ports.
-    The caller, the node and the flood are kept apart from each other or not."""
+    The caller, the node and the flood are kept apart from each other or not. The node and the flood may be under
+    SCHED_FIFO."""
     port_of, datagram = FLOODS[flooded]
     with Node(program, kind, slots) as node, flooding(port_of(node), datagram, processes) as children:
         with apart([node.process.pid, *children]) if is_apart else contextlib.nullcontext():
+            if is_real_time:
+                put_first([node.process.pid, *children])
             answer_times(node, brief_while, FIRST)
             yield node, children

@@ -8,39 +8,56 @@
  *     struct trdp_node_record record;
  *     if (trdp_node_open(&node, config, config_length, &fault) != TRDP_NODE_OK) ..
  *     struct trdp_node_event event = { .what = TRDP_NODE_MOMENT, .moment = 100000 };
- *     trdp_node_step(&node, &event, NULL, 0, &done);
- *     for (size_t i = 0; i < done.records; i++) {
- *         trdp_node_record(&node, i, &record);
+ *     if (trdp_node_step(&node, &event, NULL, 0, &done) != TRDP_NODE_OK) ..
+ *     for (size_t i = 0; trdp_node_record(&node, i, &record) == TRDP_NODE_OK; i++)
  *         if (record.what == TRDP_NODE_SEND_PD) ..    record.bytes goes to record.address
- *     }
  *     trdp_node_close(&node);
  *
  * Link libtrdp_node.a and three functions that give it memory: rattle_alloc, rattle_realloc and
  * rattle_dealloc. trdp_node_alloc.c has them over malloc. docs/SCRIPT.md says what each event means.
  * Addresses and ports are in host order (0x0a000002 is 10.0.0.2), times in microseconds, and a
- * moment counts from when the node was opened.
+ * moment counts from when the node was opened. In C++ keep the word `struct`, as in
+ * struct trdp_node_record: functions have the same names.
  *
  * STATUS. Every function but trdp_node_close returns an enum trdp_node_status. It is TRDP_NODE_OK if
- * the function did what it says. With every other status but TEXT_LOST nothing has changed, and
- * what an argument points to is as it was, except for the outbox: an event that is rejected has no
- * records.
+ * the function did what it says. With NO_NODE, BAD_POINTER and OWN_BYTES nothing was done, and nothing
+ * is written. With every other status but TEXT_LOST the node is as it was, but has no records any
+ * more if an event or a line was rejected. The struct for the result is written then too: it has the
+ * status, and no records, no text or no name.
  *
  * BORROWED BYTES. The bytes of a record and the text of a line are the node's own. They stay until
  * the node's next event, line or text, or its close. Reading them later is undefined. As bytes of
  * an event of the same node they are refused, as long as they are borrowed: OWN_BYTES. Copy them
  * first. Another node takes them as they are.
  *
- * UNDEFINED. A struct trdp_node that was copied, and used or closed as both. Two calls with one node
- * at the same time; two nodes may be used by two threads. A call from a signal handler. A pointer
- * that isn't NULL and doesn't point to what its type says, or has fewer bytes than the length says.
- * After trdp_node_close the node is TRDP_NODE_NONE again, and a call answers NO_NODE. */
+ * UNDEFINED. A struct trdp_node that doesn't begin as TRDP_NODE_NONE, or that was copied, and used or
+ * closed as both. Two calls with one node at the same time; two nodes may be used by two threads. A
+ * call from a signal handler or an interrupt. A pointer that isn't NULL and doesn't point to what its
+ * type says, or has fewer bytes than the length says. A struct for a result that shares memory with
+ * another argument. Functions for memory that don't do what trdp_node_alloc.c says.
+ * After trdp_node_close the node is TRDP_NODE_NONE again, and a call answers NO_NODE. To open a node
+ * that is open loses the one before, and its memory.
+ *
+ * VALUES. A value or a payload goes as it is, in TRDP's byte order: its numbers are big-endian.
+ * trdp_slot_pack and trdp_slot_unpack of trdp_slot.h convert the datasets of a configuration. */
 #ifndef TRDP_NODE_H
 #define TRDP_NODE_H
 
 #include <stddef.h>
 #include <stdint.h>
 
+#if defined UINTPTR_MAX && UINTPTR_MAX < UINT64_MAX
+#error "libtrdp_node is for 64-bit processors only"
+#endif
+
 #ifdef __cplusplus
+/* What is usual in C: casts, and a function with the name of a struct. */
+#ifdef __GNUC__
+#pragma GCC diagnostic push
+#pragma GCC diagnostic ignored "-Wold-style-cast"
+#pragma GCC diagnostic ignored "-Wshadow"
+#pragma GCC diagnostic ignored "-Wzero-as-null-pointer-constant"
+#endif
 extern "C" {
 #endif
 
@@ -224,7 +241,7 @@ enum trdp_node_message {
 /* A record: what the node sends to a slot. */
 struct trdp_node_record {
     const uint8_t *bytes; /* a value, a payload or a telegram, borrowed */
-    size_t length;        /* how many bytes it has */
+    size_t length;        /* how many bytes it has; if 0, `bytes` may be any pointer */
     uint32_t what;        /* an enum trdp_node_record_what */
     uint32_t handle;
     uint32_t replier;     /* the handle of the replier that is to answer */
@@ -316,7 +333,11 @@ struct trdp_node {
 };
 
 /* A node that isn't open. */
+#ifdef __cplusplus
+#define TRDP_NODE_NONE { nullptr, 0, 0, 0, 0 }
+#else
 #define TRDP_NODE_NONE { NULL, 0, 0, 0, 0 }
+#endif
 
 /* Whether bytes of the caller can be handed to a node: NULL only if there are none. */
 static inline int trdp_node_can_be(const void *bytes, size_t length) {
@@ -381,14 +402,12 @@ static inline enum trdp_node_status trdp_node_step(struct trdp_node *node,
  * and each slot's in their order, as `trdpd run` prints them. NO_RECORD past the last. */
 static inline enum trdp_node_status trdp_node_record(struct trdp_node *node, size_t index,
                                                      struct trdp_node_record *record) {
-    uintptr_t from, to;
     if (!node || !node->at) return TRDP_NODE_NO_NODE;
     if (!record) return TRDP_NODE_BAD_POINTER;
     trdp_node_raw_record(node->at, index, record);
     if (!record->what) return TRDP_NODE_NO_RECORD;
     if (record->length) {
-        from = (uintptr_t)record->bytes;
-        to = from + record->length;
+        uintptr_t from = (uintptr_t)record->bytes, to = from + record->length;
         if (!node->bytes_end || from < node->bytes) node->bytes = from;
         if (to > node->bytes_end) node->bytes_end = to;
     }
@@ -437,25 +456,34 @@ static inline enum trdp_node_status trdp_node_state(const struct trdp_node *node
  * none of that number. */
 static inline enum trdp_node_status trdp_node_refusal_name(uint32_t refusal,
                                                            struct trdp_node_name *name) {
+    uint32_t status;
     if (!name) return TRDP_NODE_BAD_POINTER;
-    return (enum trdp_node_status)trdp_node_raw_refusal_name(refusal, name);
+    status = trdp_node_raw_refusal_name(refusal, name);
+    return (enum trdp_node_status)status;
 }
 
 /* The name of a node's fault: a status from NO_SLOT to SLOTS_FULL. Otherwise the same. */
 static inline enum trdp_node_status trdp_node_fault_name(uint32_t fault,
                                                          struct trdp_node_name *name) {
+    uint32_t status;
     if (!name) return TRDP_NODE_BAD_POINTER;
-    return (enum trdp_node_status)trdp_node_raw_fault_name(fault, name);
+    status = trdp_node_raw_fault_name(fault, name);
+    return (enum trdp_node_status)status;
 }
 
 /* The name of a reason: `code` of a record that is CLOSED. Otherwise the same. */
 static inline enum trdp_node_status trdp_node_reason_name(uint32_t reason,
                                                           struct trdp_node_name *name) {
+    uint32_t status;
     if (!name) return TRDP_NODE_BAD_POINTER;
-    return (enum trdp_node_status)trdp_node_raw_reason_name(reason, name);
+    status = trdp_node_raw_reason_name(reason, name);
+    return (enum trdp_node_status)status;
 }
 
 #ifdef __cplusplus
 }
+#ifdef __GNUC__
+#pragma GCC diagnostic pop
+#endif
 #endif
 #endif

@@ -1,4 +1,7 @@
-/* The memory of libtrdp_node.a, by malloc: link this file, or three functions of your own that do the same. */
+/* The memory of libtrdp_node.a, by malloc: link this file, or three functions of your own that do the same.
+ *
+ * The alignment is a power of two, at most 16. The library calls these functions only while the program calls the
+ * library, and never with a NULL pointer. They don't call it. If several threads have nodes, several threads call them. */
 #include <stdbool.h>
 #include <stddef.h>
 #include <stdint.h>

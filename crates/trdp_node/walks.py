@@ -7,7 +7,7 @@
 The export gets the node's pointer, lends what lies there to a function of the crate, and has it back:
 
     pub unsafe extern "C" fn EXPORT(alloc: Global, at: *mut u8, ..) {
-        let held = &mut *(at as *mut Held);
+        let held = &mut *(at as *mut HeldNode);
         LENT_TO(held, ..);
     }
 

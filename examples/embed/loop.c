@@ -35,7 +35,7 @@ static struct sockaddr_in socket_address(uint32_t address, uint16_t port)
     return place;
 }
 
-/* Does what the records of the latest event say. The node's bytes go out before its next event. */
+/* Does what the records of the latest event say. It sends their bytes before the next event, as they are the node's. */
 static void act(struct trdp_node *node)
 {
     struct trdp_node_record record;
@@ -48,7 +48,9 @@ static void act(struct trdp_node *node)
                        (struct sockaddr *)&to, sizeof to) < 0) perror("sendto");
             break;
         case TRDP_NODE_VALUE:
-            if (record.code == TRDP_NODE_VALID) printf("the other device counts %u\n", record.bytes[0]);
+            if (record.code != TRDP_NODE_VALID) break;
+            if (record.length) printf("the other device counts %u\n", record.bytes[0]);
+            else printf("the other device sends no count\n");
             break;
         case TRDP_NODE_SILENT: printf("the other device is silent\n"); break;
         case TRDP_NODE_ALIVE: printf("the other device is back\n"); break;
@@ -60,27 +62,28 @@ static void act(struct trdp_node *node)
     }
 }
 
-/* Hands in an event, and does what comes of it. An event that finds no memory may be handed in again. */
+/* Passes an event, and does what comes of it. An event for which there is no memory may be passed again. */
 static void step(struct trdp_node *node, struct trdp_node_event event, const void *bytes, size_t length)
 {
     struct trdp_node_done done;
-    if (trdp_node_step(node, &event, bytes, length, &done) == TRDP_NODE_OK) act(node);
-    else printf("an event has status %u\n", done.status);
+    enum trdp_node_status status = trdp_node_step(node, &event, bytes, length, &done);
+    if (status == TRDP_NODE_OK) act(node);
+    else printf("an event has status %d\n", (int)status);
 }
 
-/* Hands in every datagram that waits at a port. Its own address is where it was sent, as no groups are joined. */
+/* Passes the datagrams that wait at a port: 50 at most, so that a flood doesn't hold up what is due. They were sent to the
+ * device's own address, because it joins no group. */
 static void receive(struct trdp_node *node, int port, uint32_t own)
 {
     static uint8_t bytes[65536];
-    struct sockaddr_in from;
-    socklen_t size = sizeof from;
-    ssize_t length;
-    while ((length = recvfrom(ports[port].fd, bytes, sizeof bytes, MSG_DONTWAIT, (struct sockaddr *)&from, &size)) >= 0) {
-        struct trdp_node_event event = { .what = port ? TRDP_NODE_MD : TRDP_NODE_PD,
+    for (int left = 50; left; left--) {
+        struct sockaddr_in from;
+        socklen_t size = sizeof from;
+        ssize_t length = recvfrom(ports[port].fd, bytes, sizeof bytes, MSG_DONTWAIT, (struct sockaddr *)&from, &size);
+        if (length < 0) return;
+        step(node, (struct trdp_node_event){ .what = port ? TRDP_NODE_MD : TRDP_NODE_PD,
             .from_address = ntohl(from.sin_addr.s_addr), .from_port = ntohs(from.sin_port),
-            .to_address = own, .to_port = numbers[port] };
-        step(node, event, bytes, (size_t)length);
-        size = sizeof from;
+            .to_address = own, .to_port = numbers[port] }, bytes, (size_t)length);
     }
 }
 
@@ -98,8 +101,9 @@ static void run(struct trdp_node *node, uint32_t own, uint64_t seconds)
             step(node, (struct trdp_node_event){ .what = TRDP_NODE_PUT, .handle = 1 }, &count, 1);
             step(node, (struct trdp_node_event){ .what = TRDP_NODE_GET, .handle = 2 }, NULL, 0);
         }
-        trdp_node_state(node, &state);
+        if (trdp_node_state(node, &state) != TRDP_NODE_OK) return;
         uint64_t next = state.next_due < next_call ? state.next_due : next_call;
+        now = clock_now() - start;
         poll(ports, 2, next > now ? (int)((next - now + 999) / 1000) : 0);
     }
 }
@@ -122,8 +126,14 @@ int main(int argc, char **argv)
     struct trdp_node_fault fault;
     if (argc != 4) return 2;
     uint32_t own = ntohl(inet_addr(argv[1])), other = ntohl(inet_addr(argv[2]));
-    if (!open_ports(own)) return perror("bind"), 1;
-    if (trdp_node_open(&node, config, sizeof config - 1, &fault) != TRDP_NODE_OK) return puts(fault.text), 1;
+    if (!open_ports(own)) {
+        perror("bind");
+        return 1;
+    }
+    if (trdp_node_open(&node, config, sizeof config - 1, &fault) != TRDP_NODE_OK) {
+        puts(fault.text);
+        return 1;
+    }
     setvbuf(stdout, NULL, _IOLBF, 0);
     step(&node, (struct trdp_node_event){ .what = TRDP_NODE_PUBLISH, .com_id = 2101, .time = 100000,
         .to_address = other, .to_port = numbers[0] }, NULL, 0);

@@ -68,15 +68,16 @@ static void refuse_pointers(void)
 {
     struct trdp_node node = TRDP_NODE_NONE;
     struct trdp_node_event event;
-    struct trdp_node_done done;
-    struct trdp_node_text text;
+    struct trdp_node_done done = { 7, 7 };
+    struct trdp_node_text text = { NULL, 7, 7, 7 };
     struct trdp_node_fault fault;
     size_t most = (size_t)PTRDIFF_MAX + 1;
     memset(&event, 0, sizeof event);
+    fault.number = 7;
     IS(BAD_POINTER, trdp_node_open(&node, NULL, 1, &fault));
     IS(BAD_POINTER, trdp_node_open(&node, config, most, &fault));
     IS(BAD_POINTER, trdp_node_open(&node, config, sizeof config - 1, NULL));
-    CHECK(!node.at);
+    CHECK(!node.at && fault.number == 7);
     open_node(&node);
     IS(BAD_POINTER, trdp_node_step(&node, NULL, NULL, 0, &done));
     IS(BAD_POINTER, trdp_node_step(&node, &event, NULL, 1, &done));
@@ -91,6 +92,7 @@ static void refuse_pointers(void)
     IS(BAD_POINTER, trdp_node_refusal_name(1, NULL));
     IS(BAD_POINTER, trdp_node_fault_name(1, NULL));
     IS(BAD_POINTER, trdp_node_reason_name(1, NULL));
+    CHECK(done.records == 7 && done.status == 7 && text.length == 7 && text.status == 7);
     IS(OK, trdp_node_line(&node, NULL, 0, &text));
     CHECK(text.length == 0 && text.records == 0);
     trdp_node_close(&node);
@@ -151,7 +153,7 @@ static void refuse_lent(void)
     struct trdp_node node = TRDP_NODE_NONE, other = TRDP_NODE_NONE;
     struct trdp_node_record record;
     struct trdp_node_event event;
-    struct trdp_node_done done;
+    struct trdp_node_done done = { 7, 7 };
     struct trdp_node_text text, lent;
     open_node(&node);
     open_node(&other);
@@ -168,6 +170,8 @@ static void refuse_lent(void)
     CHECK(record.length == 2 && record.bytes[1] == 11);
     IS(OWN_BYTES, trdp_node_step(&node, &event, record.bytes, 2, &done));
     IS(OWN_BYTES, trdp_node_step(&node, &event, record.bytes + 1, 1, &done));
+    IS(OK, trdp_node_record(&node, 0, &record));
+    CHECK(done.records == 7 && record.length == 2);
     IS(OK, trdp_node_step(&node, &event, record.bytes, 0, &done));
     IS(NO_RECORD, trdp_node_record(&node, 0, &record));
     CHECK(!record.what && !record.length);
@@ -185,6 +189,7 @@ static void print_again(void)
     struct trdp_node_state state;
     struct trdp_node_text text;
     struct trdp_node_event event;
+    struct trdp_node_record record;
     struct trdp_node_done done;
     open_node(&node);
     memset(&event, 0, sizeof event);
@@ -199,13 +204,17 @@ static void print_again(void)
     CHECK(done.records == 1 && text.records == 1 && text.length > 100 && !memcmp(text.text, "0 send pd ", 10));
     event.moment = 999;
     IS(PAST, trdp_node_step(&node, &event, NULL, 0, &done));
+    IS(OK, trdp_node_state(&node, &state));
+    CHECK(done.status == TRDP_NODE_PAST && done.records == 0 && state.now == 1000);
     IS(OK, trdp_node_text(&node, &text));
     CHECK(text.records == 0 && text.length == 0);
     CHECK(says(line_of(&node, ""), "") && says(line_of(&node, "# a remark"), ""));
     IS(NO_SLOT, trdp_node_line(&node, "call 1 reset", 12, &text));
     CHECK(says(text, "fault NoSlot\n"));
+    CHECK(says(line_of(&node, "call 0 reset"), "0 done\n"));
     IS(LINE_UNKNOWN, trdp_node_line(&node, "jump", 4, &text));
-    CHECK(says(text, ""));
+    IS(NO_RECORD, trdp_node_record(&node, 0, &record));
+    CHECK(says(text, "") && text.status == TRDP_NODE_LINE_UNKNOWN && text.records == 0);
     trdp_node_close(&node);
 }
 

@@ -1,4 +1,5 @@
 pub mod NameLemmas
 pub mod NodeLemmas
 pub mod Owning
+pub mod ReadLemmas
 pub mod RecordLemmas

@@ -3,3 +3,4 @@ pub mod EventOf
 pub mod RecordOf
 pub mod Outcomes
 pub mod Openings
+pub mod Reading

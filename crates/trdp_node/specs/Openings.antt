@@ -6,17 +6,17 @@ use Rattle.trdp_dataset.specs.Configs.{ConfigModel, ReadsToml, config_of}
 use Rattle.trdp_dataset.specs.Faults.{rank}
 use Rattle.trdp_engine.specs.NodeStates.{opened_node}
 use Rattle.trdp_text.specs.ConfigNames.{text_of_config_fault}
-use Rattle.trdp_node.specs.declared.held.Held.{Held}
+use Rattle.trdp_node.specs.declared.held.HeldNode.{HeldNode}
 use Rattle.trdp_node.specs.declared.results.Fault.{Fault}
 
 -- a node that was just opened with this configuration
-pub record IsOpened (config : ConfigModel) (held : Held) : Type 0 where
+pub record IsOpened (config : ConfigModel) (held : HeldNode) : Type 0 where
   pub node : held.node ≡ opened_node config
   pub records : held.records.records ≡ []
   pub text : held.text.items ≡ []
 
 -- a node that was just opened with the configuration in these bytes
-pub record Opens (bytes : List ℕ) (held : Held) : Type 0 where
+pub record Opens (bytes : List ℕ) (held : HeldNode) : Type 0 where
   pub config : ConfigModel
   pub read : ReadsToml config_of bytes (Ok config)
   pub opened : IsOpened config held

@@ -24,7 +24,7 @@ use Rattle.trdp_node.specs.declared.record.RecordNumbers.{RecordNumbers}
 use Rattle.trdp_node.specs.declared.results.Done.{Done}
 use Rattle.trdp_node.specs.declared.results.State.{State}
 use Rattle.trdp_node.specs.declared.results.Text.{Text}
-use Rattle.trdp_node.specs.declared.held.Held.{Held}
+use Rattle.trdp_node.specs.declared.held.HeldNode.{HeldNode}
 
 -- the node is as it was, and there is no record
 pub record Stays (old new : NodeState) (records : List RecordModel) : Type 0 where
@@ -64,7 +64,7 @@ StepsTo (Ok event) old new records status = (answer : Result (Unit {0}) NodeFaul
 StepsTo (Err bad) old new records status = Stays old new records × (status ≡ bad)
 
 -- an event in numbers, with its bytes
-pub record Steps (old new : Held) (numbers : EventNumbers) (bytes : List ℕ) (done : Done)
+pub record Steps (old new : HeldNode) (numbers : EventNumbers) (bytes : List ℕ) (done : Done)
     : Type 0 where
   pub comes : StepsTo (event_of numbers bytes) old.node new.node new.records.records done.status
   pub count : done.records ≡ length new.records.records
@@ -96,13 +96,13 @@ LineTo (Err fault) old new records text status =
     Stays old new records × (text ≡ []) × (status ≡ status_of_line_fault fault)
 
 -- where the text is, how long it is, and how many records there are
-pub record Lends (held : Held) (text : Text) : Type 0 where
+pub record Lends (held : HeldNode) (text : Text) : Type 0 where
   pub at : text.text ≡ vec_ptr held.text
   pub len : text.len ≡ length held.text.items
   pub count : text.records ≡ length held.records.records
 
 -- a line, in bytes without its end
-pub record TakesInLine (old new : Held) (line : List ℕ) (text : Text) : Type 0 where
+pub record TakesInLine (old new : HeldNode) (line : List ℕ) (text : Text) : Type 0 where
   pub comes : LineTo (line_of line) old.node new.node new.records.records new.text.items
       text.status
   pub lends : Lends new text
@@ -114,14 +114,14 @@ PrintsAs records text status =
     ⊎ ((status ≡ 20) × (text ≡ []))
 
 -- the text of the latest event's records; node and records stay
-pub record Prints (old new : Held) (text : Text) : Type 0 where
+pub record Prints (old new : HeldNode) (text : Text) : Type 0 where
   pub node : new.node ≡ old.node
   pub records : new.records ≡ old.records
   pub comes : PrintsAs old.records.records new.text.items text.status
   pub lends : Lends new text
 
 -- the record of that index, slot by slot; the node stays
-pub record ShowsRecord (old new : Held) (index : ℕ) (numbers : RecordNumbers) : Type 0 where
+pub record ShowsRecord (old new : HeldNode) (index : ℕ) (numbers : RecordNumbers) : Type 0 where
   pub stays : new ≡ old
   pub says : numbers
       ≡ record_numbers numbers.bytes (slice_get (by_slot old.records.records) index)
@@ -140,6 +140,6 @@ pub record TellsOf (node : NodeState) (state : State) : Type 0 where
   pub count : state.slots ≡ length node.slots
 
 -- the same; the node stays
-pub record TellsState (old new : Held) (state : State) : Type 0 where
+pub record TellsState (old new : HeldNode) (state : State) : Type 0 where
   pub stays : new ≡ old
   pub tells : TellsOf old.node state

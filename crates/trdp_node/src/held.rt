@@ -1,41 +1,43 @@
 //! A node with the lists that it uses from event to event.
 
-ghost use Rattle.std.specs.Prelude.{◌≡◌, [], IfOk, IfErr, option_map, slice_get};
-ghost use Rattle.trdp_model.specs.Events.{event_model};
-ghost use Rattle.trdp_model.specs.Records.{record_model};
+ghost use Rattle.std.specs.Prelude.{◌≡◌, [], IfOk, IfErr, Ok, slice_get};
+ghost use Rattle.trdp_model.specs.Events.{CallIs, GetCall, PutCall, event_model};
 ghost use Rattle.trdp_outbox.specs.SlotOrder.{by_slot};
-ghost use Rattle.trdp_node.specs.Outcomes.{AnswersEvent, Lends, PlaysEvent, Prints, Steps};
+ghost use Rattle.trdp_node.specs.EventOf.{event_of};
+ghost use Rattle.trdp_node.specs.Outcomes.{Lends, PlaysEvent, Prints, Steps, StepsTo};
 ghost use Rattle.trdp_node.specs.Outcomes.{TakesInLine, TellsOf, status_of as status_of_answer};
 ghost use Rattle.trdp_node.specs.Openings.{Opens, Refuses};
 ghost use Rattle.trdp_node.specs.RecordOf.{record_numbers};
 
 use crate::event::EventNumbers;
+use crate::event_numbers::{GET, PUT};
+use crate::latest::Records;
 use crate::numbers::{OK, OUT_OF_MEMORY, TEXT_LOST, fault_number, line_fault_number};
 use crate::record::RecordNumbers;
 use crate::results::{Done, State, Text};
 use std::alloc::Global;
-use trdp_engine::{ConfigFault, Event, Node, NodeConfig, NodeFault, Outbox, Record};
+use trdp_engine::{Call, ConfigFault, Event, Node, NodeConfig, NodeFault};
 use trdp_text::{print_fault, print_records, read_event};
 
 /// A node with the lists that it uses from event to event.
 #[derive(Drop)]
-pub struct Held {
+pub struct HeldNode {
     /// The node.
     node: Node,
     /// The records of the latest event.
-    records: Outbox,
+    records: Records,
     /// The bytes that a line carries.
     bytes: Vec<u8>,
     /// The text of the latest line.
     text: Vec<u8>,
 }
 
-impl Held {
+impl HeldNode {
     /// A node that was just opened with the configuration of a file in TOML.
     ///
     /// # Errors
     /// The fault of the configuration; `OutOfMemory` also where there is no memory for the node.
-    pub fn open(alloc: Global, config: &[u8]) -> Result<Box<Held, Global>, ConfigFault>
+    pub fn open(alloc: Global, config: &[u8]) -> Result<Box<HeldNode, Global>, ConfigFault>
         ensures opened { IfOk result (λ held. Opens config.now held.value) }
         ensures refused { IfErr result (λ fault. Refuses config.now fault) }
     {
@@ -44,9 +46,9 @@ impl Held {
             Ok(node) => node,
             Err(_) => return Err(ConfigFault::OutOfMemory),
         };
-        let held = Held {
+        let held = HeldNode {
             node,
-            records: Outbox::new(alloc),
+            records: Records::new(alloc),
             bytes: Vec::new(alloc),
             text: Vec::new(alloc),
         };
@@ -61,19 +63,82 @@ impl Held {
         ensures { Steps self.old self.new event.now bytes.now done.new }
     {
         self.records.clear();
-        done.status = match event.read(bytes) {
-            Ok(event) => status_of(process(&mut self.node, &event, &mut self.records)),
-            Err(status) => status,
-        };
+        done.status = self.answer(event, bytes);
         done.records = self.records.len();
     }
 
-    /// Writes the record of that index, slot by slot.
-    pub fn record(&self, index: usize, numbers: &mut RecordNumbers)
-        ensures { numbers.new ≡ record_numbers numbers.new.bytes
-            (slice_get (by_slot self.now.records.records) index) }
+    /// Processes an event, and returns the status. A put and a get, which a main loop makes again
+    /// and again, have functions of their own: each makes its event in place, which is copied where
+    /// all kinds of events meet.
+    #[tactic(auto, unfolding(crate::specs::EventOf::event_of, crate::specs::EventOf::call_meant))]
+    fn answer(&mut self, event: &EventNumbers, bytes: &[u8]) -> u32
+        requires { self.old.records.records ≡ [] }
+        ensures { StepsTo (event_of event.now bytes.now) self.old.node self.new.node
+            self.new.records.records result }
     {
-        match nth(&self.records, index) {
+        match event.what {
+            PUT => self.put(event, bytes),
+            GET => self.get(event),
+            _ => self.any(event, bytes),
+        }
+    }
+
+    /// Processes a put, and returns the status.
+    fn put(&mut self, event: &EventNumbers, bytes: &[u8]) -> u32
+        requires { self.old.records.records ≡ [] }
+        ensures { StepsTo (Ok (CallIs event.now.slot (PutCall event.now.handle bytes.now)))
+            self.old.node self.new.node self.new.records.records result }
+    {
+        let handle = event.handle;
+        self.process(&Event::Call {
+            slot: event.slot,
+            call: Call::Put { handle, bytes },
+        })
+    }
+
+    /// Processes a get, and returns the status.
+    fn get(&mut self, event: &EventNumbers) -> u32
+        requires { self.old.records.records ≡ [] }
+        ensures { StepsTo (Ok (CallIs event.now.slot (GetCall event.now.handle))) self.old.node
+            self.new.node self.new.records.records result }
+    {
+        let handle = event.handle;
+        self.process(&Event::Call {
+            slot: event.slot,
+            call: Call::Get { handle },
+        })
+    }
+
+    /// Processes an event of any kind, and returns the status.
+    fn any(&mut self, event: &EventNumbers, bytes: &[u8]) -> u32
+        requires { self.old.records.records ≡ [] }
+        ensures { StepsTo (event_of event.now bytes.now) self.old.node self.new.node
+            self.new.records.records result }
+    {
+        match event.read(bytes) {
+            Ok(event) => self.process(&event),
+            Err(status) => status,
+        }
+    }
+
+    /// Lets the node process an event, and returns the status.
+    fn process(&mut self, event: &Event<'_>) -> u32
+        requires { self.old.records.records ≡ [] }
+        ensures { StepsTo (Ok (event_model event.now)) self.old.node self.new.node
+            self.new.records.records result }
+    {
+        status_of(self.records.process(&mut self.node, event))
+    }
+
+    /// Writes the record of that index, slot by slot. What it keeps of the way there is no part of
+    /// the node.
+    pub fn record(&mut self, index: usize, numbers: &mut RecordNumbers)
+        ensures stays { self.new ≡ self.old }
+        ensures says { numbers.new ≡ record_numbers numbers.new.bytes
+            (slice_get (by_slot self.old.records.records) index) }
+    {
+        let place = self.records.place_of(index);
+        match self.records.outbox().get(place) {
             Some(record) => numbers.put(&record),
             None => numbers.clear(),
         }
@@ -98,7 +163,7 @@ impl Held {
         ensures { Prints self.old self.new text.new }
     {
         self.text.clear();
-        text.status = match print_records(&mut self.text, &self.records) {
+        text.status = match print_records(&mut self.text, self.records.outbox()) {
             Ok(()) => OK,
             Err(_) => TEXT_LOST,
         };
@@ -128,37 +193,15 @@ impl Held {
     }
 }
 
-/// The record of that index, slot by slot; None past the last.
-fn nth(records: &Outbox, index: usize) -> Option<Record<'_>>
-    ensures { option_map record_model result ≡ slice_get (by_slot records.now.records) index }
-{
-    let mut left = index;
-    for record in records.by_slot() {
-        if left == 0 {
-            return Some(record);
-        }
-        left -= 1;
-    }
-    None
-}
-
-/// Lets the node process an event, of which an outbox without records gets them.
-fn process(node: &mut Node, event: &Event<'_>, records: &mut Outbox) -> Result<(), NodeFault>
-    requires { records.old.records ≡ [] }
-    ensures { AnswersEvent node.old node.new records.new.records (event_model event.now) result }
-{
-    node.step(event, records)
-}
-
 /// Lets the node process an event, and prints its text. Returns the status.
-fn play(node: &mut Node, event: &Event<'_>, records: &mut Outbox, text: &mut Vec<u8>) -> u32
+fn play(node: &mut Node, event: &Event<'_>, records: &mut Records, text: &mut Vec<u8>) -> u32
     requires records { records.old.records ≡ [] }
     requires text { text.old.items ≡ [] }
     ensures { PlaysEvent node.old node.new records.new.records (event_model event.now) text.new.items
         result }
 {
-    match process(node, event, records) {
-        Ok(()) => match print_records(text, records) {
+    match records.process(node, event) {
+        Ok(()) => match print_records(text, records.outbox()) {
             Ok(()) => OK,
             Err(_) => TEXT_LOST,
         },

@@ -29,9 +29,11 @@
 //! in a record is that of its bytes is seen by reading `put` in `record.rt`.
 #![tactic(auto)]
 
+mod cursor;
 mod event;
 mod event_numbers;
 mod held;
+mod latest;
 mod layout;
 mod names;
 mod numbers;
@@ -40,12 +42,13 @@ mod record;
 mod record_numbers;
 mod results;
 mod start;
+mod walk;
 
 ghost use Rattle.std.specs.Prelude.{◌≡◌, ◌≢◌, []};
 ghost use Rattle.std.specs.Borrow.{sem};
 ghost use Rattle.std_alloc.specs.Box.Ownership.{box_owns};
 ghost use Rattle.std.specs.contracts.impls.GlobalAllocator.TheImpl.{ghosts};
-ghost use Rattle.trdp_node.specs.contracts.held.Held.{the_row as held_row};
+ghost use Rattle.trdp_node.specs.contracts.held.HeldNode.{the_row as held_row};
 ghost use Rattle.trdp_model.specs.declared.fault.NodeFault.{NodeFault};
 ghost use Rattle.trdp_model.specs.declared.fault.Refusal.{Refusal};
 ghost use Rattle.trdp_pd.specs.declared.object.Reason.{Reason};
@@ -54,7 +57,7 @@ ghost use Rattle.trdp_node.specs.Codes.{reason_code, refusal_code, status_of_fau
 ghost use Rattle.trdp_node.specs.Openings.{TellsOpening, filled};
 ghost use Rattle.trdp_node.specs.Outcomes.{Prints, ShowsRecord, Steps, TakesInLine, TellsState};
 
-use crate::held::Held;
+use crate::held::HeldNode;
 use crate::owned::Owned;
 pub use event::EventNumbers;
 pub use record::RecordNumbers;
@@ -72,7 +75,7 @@ pub extern "C" fn trdp_node_raw_open(
 )
     ensures { TellsOpening config.now fault.new }
 {
-    match Held::open(alloc, config) {
+    match HeldNode::open(alloc, config) {
         Ok(held) => {
             fault.put_none();
             *at = hide(held);
@@ -82,7 +85,7 @@ pub extern "C" fn trdp_node_raw_open(
 }
 
 /// Where the node lies from now on.
-fn hide(held: Box<Held, Global>) -> *mut u8 {
+fn hide(held: Box<HeldNode, Global>) -> *mut u8 {
     let at = Box::into_raw(held);
     at as *mut u8
 }
@@ -90,17 +93,17 @@ fn hide(held: Box<Held, Global>) -> *mut u8 {
 /// Frees a node.
 #[unsafe(no_mangle)]
 pub unsafe extern "C" fn trdp_node_raw_close(alloc: Global, at: *mut u8)
-    ghost held: { Held }
+    ghost held: { HeldNode }
     requires* { sem 𝓛 (box_owns (ghosts.dealloc_token alloc) held_row at held) }
 {
     close(Owned {
-        at: at as *mut Held,
+        at: at as *mut HeldNode,
         alloc,
     });
 }
 
 /// Drops the node.
-fn close(held: Owned<Held, Global>) {
+fn close(held: Owned<HeldNode, Global>) {
     drop(held.into_box());
 }
 
@@ -113,18 +116,18 @@ pub unsafe extern "C" fn trdp_node_raw_step(
     bytes: &[u8],
     done: &mut Done,
 )
-    ghost held: { Held }
+    ghost held: { HeldNode }
     requires* { sem 𝓛 (box_owns (ghosts.dealloc_token alloc) held_row at held) }
-    ensures* { ∃ₛ (λ (after : Held). sem 𝓛
+    ensures* { ∃ₛ (λ (after : HeldNode). sem 𝓛
         (box_owns (ghosts.dealloc_token alloc) held_row at after)
         ∗ ⌜ Steps held after event.now bytes.now done.new ⌝) }
 {
-    let held = &mut *(at as *mut Held);
+    let held = &mut *(at as *mut HeldNode);
     step(held, event, bytes, done);
 }
 
 /// Lets the node process an event.
-fn step(held: &mut Held, event: &EventNumbers, bytes: &[u8], done: &mut Done)
+fn step(held: &mut HeldNode, event: &EventNumbers, bytes: &[u8], done: &mut Done)
     ensures { Steps held.old held.new event.now bytes.now done.new }
 {
     held.step(event, bytes, done);
@@ -138,18 +141,18 @@ pub unsafe extern "C" fn trdp_node_raw_record(
     index: usize,
     numbers: &mut RecordNumbers,
 )
-    ghost held: { Held }
+    ghost held: { HeldNode }
     requires* { sem 𝓛 (box_owns (ghosts.dealloc_token alloc) held_row at held) }
-    ensures* { ∃ₛ (λ (after : Held). sem 𝓛
+    ensures* { ∃ₛ (λ (after : HeldNode). sem 𝓛
         (box_owns (ghosts.dealloc_token alloc) held_row at after)
         ∗ ⌜ ShowsRecord held after index numbers.new ⌝) }
 {
-    let held = &mut *(at as *mut Held);
+    let held = &mut *(at as *mut HeldNode);
     show(held, index, numbers);
 }
 
 /// Writes a record.
-fn show(held: &mut Held, index: usize, numbers: &mut RecordNumbers)
+fn show(held: &mut HeldNode, index: usize, numbers: &mut RecordNumbers)
     ensures { ShowsRecord held.old held.new index numbers.new }
 {
     held.record(index, numbers);
@@ -163,18 +166,18 @@ pub unsafe extern "C" fn trdp_node_raw_line(
     line: &[u8],
     text: &mut Text,
 )
-    ghost held: { Held }
+    ghost held: { HeldNode }
     requires* { sem 𝓛 (box_owns (ghosts.dealloc_token alloc) held_row at held) }
-    ensures* { ∃ₛ (λ (after : Held). sem 𝓛
+    ensures* { ∃ₛ (λ (after : HeldNode). sem 𝓛
         (box_owns (ghosts.dealloc_token alloc) held_row at after)
         ∗ ⌜ TakesInLine held after line.now text.new ⌝) }
 {
-    let held = &mut *(at as *mut Held);
+    let held = &mut *(at as *mut HeldNode);
     take_line(held, line, text);
 }
 
 /// Lets the node process the event of a line.
-fn take_line(held: &mut Held, line: &[u8], text: &mut Text)
+fn take_line(held: &mut HeldNode, line: &[u8], text: &mut Text)
     ensures { TakesInLine held.old held.new line.now text.new }
 {
     held.line(line, text);
@@ -183,18 +186,18 @@ fn take_line(held: &mut Held, line: &[u8], text: &mut Text)
 /// Prints the records of the latest event.
 #[unsafe(no_mangle)]
 pub unsafe extern "C" fn trdp_node_raw_text(alloc: Global, at: *mut u8, text: &mut Text)
-    ghost held: { Held }
+    ghost held: { HeldNode }
     requires* { sem 𝓛 (box_owns (ghosts.dealloc_token alloc) held_row at held) }
-    ensures* { ∃ₛ (λ (after : Held). sem 𝓛
+    ensures* { ∃ₛ (λ (after : HeldNode). sem 𝓛
         (box_owns (ghosts.dealloc_token alloc) held_row at after)
         ∗ ⌜ Prints held after text.new ⌝) }
 {
-    let held = &mut *(at as *mut Held);
+    let held = &mut *(at as *mut HeldNode);
     print(held, text);
 }
 
 /// Prints the records.
-fn print(held: &mut Held, text: &mut Text)
+fn print(held: &mut HeldNode, text: &mut Text)
     ensures { Prints held.old held.new text.new }
 {
     held.print(text);
@@ -203,18 +206,18 @@ fn print(held: &mut Held, text: &mut Text)
 /// Tells the node's latest moment, when something is due next, and how many slots it has.
 #[unsafe(no_mangle)]
 pub unsafe extern "C" fn trdp_node_raw_state(alloc: Global, at: *mut u8, state: &mut State)
-    ghost held: { Held }
+    ghost held: { HeldNode }
     requires* { sem 𝓛 (box_owns (ghosts.dealloc_token alloc) held_row at held) }
-    ensures* { ∃ₛ (λ (after : Held). sem 𝓛
+    ensures* { ∃ₛ (λ (after : HeldNode). sem 𝓛
         (box_owns (ghosts.dealloc_token alloc) held_row at after)
         ∗ ⌜ TellsState held after state.new ⌝) }
 {
-    let held = &mut *(at as *mut Held);
+    let held = &mut *(at as *mut HeldNode);
     look(held, state);
 }
 
 /// Tells of the node.
-fn look(held: &mut Held, state: &mut State)
+fn look(held: &mut HeldNode, state: &mut State)
     ensures { TellsState held.old held.new state.new }
 {
     held.state(state);

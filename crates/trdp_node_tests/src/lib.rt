@@ -4,7 +4,8 @@
 //! - calls for which memory is refused;
 //! - an exchange of running nodes, with the steps that their network rejects;
 //! - turns over a wire and a clock in memory, where receiving, sending or memory fails;
-//! - wires over sockets in memory.
+//! - wires over sockets in memory;
+//! - a wire and a clock of one's own, with no more than the calls that each has to have.
 //!
 //! What a script can show is in the folder `rows` of the repository, with its output. Ports,
 //! readers and writers that fail, and services are tested over the program. The values come from
@@ -17,8 +18,6 @@ mod counts;
 #[cfg(test)]
 mod daemon;
 #[cfg(test)]
-mod few_ports;
-#[cfg(test)]
 mod items;
 #[cfg(test)]
 mod lines;
@@ -28,6 +27,8 @@ mod network;
 mod node;
 #[cfg(test)]
 mod node_bench;
+#[cfg(test)]
+mod own_wire;
 #[cfg(test)]
 mod questions;
 #[cfg(test)]

@@ -7,8 +7,8 @@ use std::process::Abort;
 use std::test::Fail;
 use trdp_base::{Ip, Place};
 use trdp_daemon::{
-    MemoryClock, MemorySockets, Port, Refusal, RestingWire, SocketFault, SocketRow, UdpWire, Wire,
-    WireFault,
+    BoundPorts, GiveRefusal, MemoryClock, MemorySockets, Port, RestingWire, SocketFault, SocketRow,
+    UdpWire, WatchedWire, Wire, WireFault,
 };
 use trdp_dataset::NodeConfig;
 
@@ -114,8 +114,8 @@ static GIVES: [Give; 4] = [
 ];
 
 /// The refusal of a `give` to a place without a route; 101 is the system's ENETUNREACH.
-fn without_way(port: Port) -> Refusal {
-    Refusal {
+fn without_way(port: Port) -> GiveRefusal {
+    GiveRefusal {
         port,
         to: FAR,
         fault: SocketFault { code: Some(101) },
@@ -205,7 +205,7 @@ fn assert_used(rt: &(impl Abort + AllocGlobal), rows: &[SocketRow], first: usize
 /// A wire over the sockets of the node; None where an allocation fails.
 fn plain(alloc: Global) -> Option<UdpWire<MemorySockets>> {
     let config = config(alloc)?;
-    UdpWire::open(sockets(alloc)?, &config).ok()
+    UdpWire::open(sockets(alloc)?, &config, BoundPorts::All).ok()
 }
 
 /// A wire that rests.
@@ -220,7 +220,7 @@ const READINGS: [u64; 4] = [7, 7, 7, 407];
 fn over(alloc: Global, sockets: MemorySockets, readings: &[u64]) -> Option<Resting> {
     let config = config(alloc)?;
     let clock = MemoryClock::new(alloc, readings).ok()?;
-    RestingWire::open(alloc, sockets, clock, &config).ok()
+    RestingWire::open(alloc, sockets, clock, &config, BoundPorts::All).ok()
 }
 
 /// A wire that rests over the sockets of the node; None where an allocation fails.
@@ -275,9 +275,8 @@ fn works_and_rests(rt: &(impl Abort + AllocGlobal), wire: &mut Resting) {
 }
 
 /// A wire that rests reads no port again where it found nothing, before the system reports it. It
-/// asks the system in each turn without a rest but the first, and sleeps for a moment where there
-/// was none for 50 milliseconds. Once something was heard in such a turn, it asks at the next port
-/// of which there are no news, and then no more.
+/// asks the system in each rest, and at the end of each turn without one, except the first of all
+/// and the first after a rest. It sleeps for a moment where there was no rest for 50 milliseconds.
 fn asks_where_news_are(rt: &(impl Abort + AllocGlobal), wire: &mut Resting) {
     let mut room = [0; 16];
     for found in [true, false, false] {
@@ -295,14 +294,18 @@ fn asks_where_news_are(rt: &(impl Abort + AllocGlobal), wire: &mut Resting) {
         let taken = wire.take(port, &mut room);
         same(rt, "in one turn", taken != Ok(None), found);
     }
-    wire.rest(0);
+    for (most, calls) in [(0, 20), (1_000, 21), (0, 21), (0, 22)] {
+        wire.rest(most);
+        same(rt, "calls", wire.sockets().rows().len(), calls);
+    }
     let rows = wire.sockets().rows();
-    same(rt, "calls", rows.len(), 20);
     for i in [16, 17] {
         same(rt, i, is_wait(rows.get(i), 0, &[0, 1, 2]), true);
     }
-    same(rt, 19, is_wait(rows.get(19), 0, &[1, 2]), true);
-    same(rt, "sleeps", wire.clock().sleeps(), [50].as_slice());
+    for i in [19, 20, 21] {
+        same(rt, i, is_wait(rows.get(i), 0, &[1, 2]), true);
+    }
+    same(rt, "sleeps", wire.clock().sleeps(), [50, 1_000].as_slice());
 }
 
 #[test]

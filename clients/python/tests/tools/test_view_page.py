@@ -59,17 +59,28 @@ class Daemons(Case):
         """The rows of a comId."""
         return [it for it in self.view.json()["rows"] if it["com_id"] == com_id]
 
+    def talking_row(self, com_id: int) -> dict[str, Any]:
+        """The row of a comId once it has had more than five telegrams and isn't silent. On a busy machine a row may be
+        silent for a moment between two telegrams, so the row is the one that was looked at."""
+        found: list[dict[str, Any]] = []
+
+        def is_talking() -> bool:
+            found[:] = [it for it in self.rows(com_id) if it["count"] > 5 and not it["silent"]]
+            return bool(found)
+
+        wait_until(is_talking)
+        return found[0]
+
     def test_all(self) -> None:
         """A publisher is there until it ends, a second one is marked, and a request without an answer is repeated."""
         status = self.door.publish(2101, f"{SINK}:{PD}", dataset=1001, cycle_us=50_000)
         self.door.put(status, [2, [125, 130]])
-        wait_until(lambda: any(it["count"] > 5 for it in self.rows(2101)))
-        row, = self.rows(2101)
+        row = self.talking_row(2101)
         self.assertEqual((row["source"], row["dest"], row["type"], row["name"]),
                          (DOOR, SINK, "Pd", "<script>alert(1)</script>"))
         self.assertEqual((row["value"], row["text"]), (
             {"n": 2, "speeds": [125, 130]}, "{n: 2, speeds: [12.5, 13.0] km/h ([125, 130])}"))
-        self.assertEqual((row["silent"], row["marks"], row["cycle_us"]), (False, [], 50_000))
+        self.assertEqual((row["marks"], row["cycle_us"]), ([], 50_000))
         self.assertEqual(self.view.json()["missing"], [300, 2102])
         points = self.view.json(f"history.json?row={row['number']}")["points"]
         self.assertEqual(points[0][1], {"n": 2.0, "speeds[0], km/h": 12.5, "speeds[1], km/h": 13.0})
@@ -81,7 +92,9 @@ class Daemons(Case):
         wait_until(lambda: [it["silent"] for it in self.rows(2101)] == [True, False])
 
         self.desk.request(300, f"{SINK}:{MD}", b"who", session=SESSION, time_us=100_000, retries=1)
-        wait_until(lambda: [it["never"] for it in self.view.json()["sessions"]] == [["answer"]])
+        # Its time is over for a moment before it is sent again.
+        wait_until(lambda: [(it["never"], len(it["telegrams"]))
+                            for it in self.view.json()["sessions"]] == [(["answer"], 2)])
         session, = self.view.json()["sessions"]
         self.assertEqual((session["session"], session["ended"]), (str(SESSION), False))
         self.assertEqual([(it["type"], it["source"], it["counter"]) for it in session["telegrams"]],
@@ -94,7 +107,8 @@ class Daemons(Case):
         """An event tells the rows that changed, at most four times a second."""
         first = self.door.publish(2101, f"{SINK}:{PD}", dataset=1001, cycle_us=20_000)
         self.door.put(first, [0, []])
-        once = self.door.publish(2102, f"{SINK}:{PD}", cycle_us=2 * SECOND)
+        # Its second telegram comes long after the events that are looked at, on a busy machine too.
+        once = self.door.publish(2102, f"{SINK}:{PD}", cycle_us=4 * SECOND)
         self.door.put(once, b"\1")
         wait_until(lambda: len(self.view.json()["rows"]) == 2)
         with self.view.ask("events") as stream:

@@ -30,7 +30,7 @@ use Rattle.std.proofs.alloc.Global.TheLaws as heap_laws
 use Rattle.std.specs.contracts.impls.GlobalAllocator.TheImpl.{ghosts}
 use Rattle.std_alloc.specs.Box.Ownership.{box_owns}
 use Rattle.std.proofs.raw_atomic.Walks.{proved_at, leaves}
-use Rattle.trdp_node.specs.contracts.held.Held as node
+use Rattle.trdp_node.specs.contracts.held.HeldNode as node
 use Rattle.trdp_node.proofs.Owning.{both, Owned, owned_good, owned_in}
 use Rattle.trdp_node.specs.contracts.close as g
 use Rattle.trdp_node.proofs.close.Met.{met}

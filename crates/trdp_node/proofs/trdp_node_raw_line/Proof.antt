@@ -38,7 +38,7 @@ use Rattle.std_alloc.specs.Box.Ownership.{box_owns}
 use Rattle.std.specs.contracts.alloc.Global as heap
 use Rattle.std.proofs.alloc.Global.TheLaws as heap_laws
 use Rattle.trdp_node.specs.Outcomes.{TakesInLine}
-use Rattle.trdp_node.specs.contracts.held.Held as node
+use Rattle.trdp_node.specs.contracts.held.HeldNode as node
 use Rattle.trdp_node.specs.contracts.results.Text as row1
 use Rattle.trdp_node.specs.contracts.take_line as g
 use Rattle.trdp_node.proofs.take_line.Met.{met}

@@ -38,7 +38,7 @@ use Rattle.std_alloc.specs.Box.Ownership.{box_owns}
 use Rattle.std.specs.contracts.alloc.Global as heap
 use Rattle.std.proofs.alloc.Global.TheLaws as heap_laws
 use Rattle.trdp_node.specs.Outcomes.{Steps}
-use Rattle.trdp_node.specs.contracts.held.Held as node
+use Rattle.trdp_node.specs.contracts.held.HeldNode as node
 use Rattle.trdp_node.specs.contracts.event.EventNumbers as row0
 use Rattle.trdp_node.specs.contracts.results.Done as row2
 use Rattle.trdp_node.specs.contracts.step as g

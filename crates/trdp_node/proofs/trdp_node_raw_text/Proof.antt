@@ -38,7 +38,7 @@ use Rattle.std_alloc.specs.Box.Ownership.{box_owns}
 use Rattle.std.specs.contracts.alloc.Global as heap
 use Rattle.std.proofs.alloc.Global.TheLaws as heap_laws
 use Rattle.trdp_node.specs.Outcomes.{Prints}
-use Rattle.trdp_node.specs.contracts.held.Held as node
+use Rattle.trdp_node.specs.contracts.held.HeldNode as node
 use Rattle.trdp_node.specs.contracts.results.Text as row0
 use Rattle.trdp_node.specs.contracts.print as g
 use Rattle.trdp_node.proofs.print.Met.{met}
