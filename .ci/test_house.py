@@ -96,11 +96,12 @@ LINES = [
     "cycle: 3 (modules in the largest cycle of imports, of 1)",
     "parameters: 1 (functions with seven or more)",
     "body: 9 (lines of crates/trdp_wire/src/seat.rt:7: sit)",
+    "limits: 4 (places that have a limit's number instead of its name)",
     "chain: 3 (trdp_base < trdp_wire < trdp_turns)",
     "outside: 33 (lines of code in trdp_wire, trdp_turns)",
     "constants: 1 (numbers with several names)",
 ]
-FOUND = {"definitions": 1, "types": 1, "modules": 1, "cycle": 3, "parameters": 1, "body": 9}
+FOUND = {"definitions": 1, "types": 1, "modules": 1, "cycle": 3, "parameters": 1, "body": 9, "limits": 4}
 
 
 class House(unittest.TestCase):
@@ -131,11 +132,11 @@ class House(unittest.TestCase):
 
     def test_it_counts(self) -> None:
         self.assertEqual(self.run_tool(), (0, LINES))
-        self.assertEqual(self.run_tool("chain"), (0, [LINES[6]]))
+        self.assertEqual(self.run_tool("chain"), (0, [LINES[7]]))
 
     def test_it_lists_the_places(self) -> None:
         wire = "crates/trdp_wire"
-        names = ("definitions", "types", "modules", "cycle", "parameters", "constants")
+        names = ("definitions", "types", "modules", "cycle", "parameters", "limits", "constants")
         self.assertEqual(self.run_tool("--places", *names), (0, [
             LINES[0],
             f"Near: crates/trdp_base/specs/Places.antt:3, {wire}/specs/Wires.antt:7",
@@ -147,18 +148,23 @@ class House(unittest.TestCase):
             f"{wire}/src/port.rt, {wire}/src/port/ports.rt, {wire}/src/seat.rt",
             LINES[4],
             f"{wire}/src/seat.rt:7: sit: 7",
-            LINES[8],
+            LINES[6],
+            f"{wire}/src/seat.rt:5: ROOM: 140,000 is LINE_MAX",
+            f"{wire}/src/seat.rt:31: no name: 140,000 is LINE_MAX",
+            f"{wire}/specs/Wires.antt:8: Near: 140,000 is line_limit",
+            f"{wire}/specs/Wires.antt:11: left: 140,000 is line_limit",
+            LINES[9],
             f"140,000: crates/trdp_base/src/place.rt:3: LINE_MAX, {wire}/src/seat.rt:5: ROOM, "
             f"{wire}/specs/Wires.antt:8: Near, {wire}/specs/Wires.antt:11: left, {wire}/src/seat.rt:31: no name"]))
 
     def test_a_number_is_what_the_file_says(self) -> None:
-        self.assertEqual(self.run_tool("--check"), (0, [*LINES[:6], "house: 6 numbers, 0 faults"]))
+        self.assertEqual(self.run_tool("--check"), (0, [*LINES[:7], "house: 7 numbers, 0 faults"]))
         self.write(**{**FOUND, "types": 0, "cycle": 4})
         self.assertEqual(self.run_tool("--check"), (1, [
-            *LINES[:6],
+            *LINES[:7],
             "types: 1, and at most 0 may be: docs/tools/house --places types lists them",
             "cycle: 3, which is less than 4: run docs/tools/house --lower",
-            "house: 6 numbers, 2 faults"]))
+            "house: 7 numbers, 2 faults"]))
 
     def test_the_file_only_falls(self) -> None:
         self.write(**{**FOUND, "types": 0, "cycle": 4})

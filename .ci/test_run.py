@@ -18,7 +18,8 @@ import time
 import unittest
 
 TOP = pathlib.Path(__file__).resolve().parent.parent
-# A kit that proves all, or fails, or takes its time if a file says so; and compiles a program that says its name.
+# A kit that proves all, or fails, or takes its time if a file says so; and compiles a program that says its name, by a
+# clang that must be asked to optimise and not to check accesses.
 RT = """#!/bin/sh
 here=$(dirname -- "$0")
 tell() { printf '#!/bin/sh\\necho "trdpd 9.9.9, %s: $*"\\n' "$1"; }
@@ -32,11 +33,12 @@ case $1 in
     run) mkdir -p out; tell proved > out/trdpd; chmod +x out/trdpd ;;
     try)
         cd "$(mktemp -d)" || exit
-        "$here/../toolchain/bin/clang" -O0 -o module.o && "$here/../toolchain/bin/ld.lld" -o program ;;
+        "$here/../toolchain/bin/clang" -O0 -fsanitize=address -o module.o || exit
+        "$here/../toolchain/bin/ld.lld" -o program ;;
 esac
 """
 CLANG = """#!/bin/sh
-case " $* " in *" -O2 "*) ;; *) exit 1 ;; esac
+case " $* " in *" -fsanitize="*) exit 1 ;; *" -O2 "*) ;; *) exit 1 ;; esac
 """
 LINKER = """#!/bin/sh
 printf '#!/bin/sh\\necho "trdpd 9.9.9, compiled: $*"\\n' > "$2"; chmod +x "$2"

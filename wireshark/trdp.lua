@@ -12,6 +12,10 @@
 --     clients/python/trdp_lua.py node.toml > datasets.lua
 --     tshark -X lua_script:wireshark/trdp.lua -X lua_script:datasets.lua -r capture.pcapng
 
+-- Wireshark finds modules beside a personal plugin, but not beside one that is installed for all users: so this names its own folder.
+local folder = debug.getinfo(1, "S").source:match("^@(.*[/\\])")
+if folder then package.path = folder .. "?.lua;" .. package.path end
+
 -- Which telegrams answer which, and how a payload is read as a value of its dataset.
 local sessions = require("trdp_sessions")
 local values = require("trdp_values")

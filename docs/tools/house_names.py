@@ -4,7 +4,7 @@ from __future__ import annotations
 import pathlib
 import re
 from collections import defaultdict
-from collections.abc import Iterable, Iterator
+from collections.abc import Iterable, Iterator, Mapping
 
 from promise_reach import names_of
 from promise_types import Types
@@ -15,6 +15,14 @@ IS_PUBLIC = re.compile(r"(?:\w+ )*pub\b|mutual|infix")
 CONSTANT = re.compile(r" *(?:pub(?:\([\w ]+\))? )?(?:const|static) (\w+): \w+ = ([^;]*);")
 VALUE = re.compile(r"([\w'-]+) = (\d[\w ^*+-]*)$")
 NUMBER = re.compile(r"(?<![\w.])(?:0x[0-9a-f_]+|\d[\d_]*)(?![\w.])")
+# The limits whose number stands once in the sources, as this constant, and once in the definitions, under this name.
+# All other places use these names. A number that is the same only by chance is not here.
+ONE_NAME: Mapping[int, tuple[str, str]] = {
+    1_432: ("PD_PAYLOAD_MAX", "pd_payload_limit"),
+    65_388: ("MD_PAYLOAD_MAX", "md_payload_limit"),
+    65_504: ("MD_TELEGRAM_MAX", "md_telegram_limit"),
+    140_000: ("LINE_MAX", "line_limit"),
+}
 # Smaller numbers are the same by chance.
 LEAST = 5
 # So many places are listed, and more are counted.
@@ -76,18 +84,38 @@ def numbers_in(path: pathlib.Path) -> Iterator[tuple[int, str, int]]:
                     yield number, "", at
 
 
-def constants(top: pathlib.Path) -> dict[str, list[str]]:
-    """The numbers that several constants of the sources, or several definitions, are; and where they have no name."""
-    named: dict[int, dict[str, list[str]]] = defaultdict(lambda: defaultdict(list))
-    bare: dict[int, list[str]] = defaultdict(list)
+def numbers(top: pathlib.Path) -> Iterator[tuple[int, str, str, str]]:
+    """The numbers of the sources and of the definitions: each with its name, the kind of its file, and its place."""
     for folder in ("src/**/*.rt", "specs/**/*.antt"):
         for path in sorted(top.glob(f"crates/*/{folder}")):
             place = path.relative_to(top)
             for number, name, line in numbers_in(path) if not place.parts[1].endswith(TESTS) else ():
-                if name:
-                    named[number][path.suffix].append(f"{place}:{line}: {name}")
-                else:
-                    bare[number].append(f"{place}:{line}")
+                yield number, name, path.suffix, f"{place}:{line}"
+
+
+def limits(top: pathlib.Path) -> list[str]:
+    """The places that have the number of a limit, other than its constant and its definition."""
+    found: list[str] = []
+    holders: set[tuple[int, str, str]] = set()
+    for number, name, kind, place in numbers(top):
+        if number not in ONE_NAME:
+            continue
+        holder = ONE_NAME[number][kind == ".antt"]
+        if name != holder or (number, name, kind) in holders:
+            found.append(f"{place}: {name or 'no name'}: {number:,} is {holder}")
+        holders.add((number, name, kind))
+    return found
+
+
+def constants(top: pathlib.Path) -> dict[str, list[str]]:
+    """The numbers that several constants of the sources, or several definitions, are; and where they have no name."""
+    named: dict[int, dict[str, list[str]]] = defaultdict(lambda: defaultdict(list))
+    bare: dict[int, list[str]] = defaultdict(list)
+    for number, name, kind, place in numbers(top):
+        if name:
+            named[number][kind].append(f"{place}: {name}")
+        else:
+            bare[number].append(place)
     several = {it: by_kind for it, by_kind in sorted(named.items())
                if it >= LEAST and any(len(places) > 1 for places in by_kind.values())}
     return {f"{number:,}": [*(place for places in by_kind.values() for place in places), *without_name(bare[number])]
