@@ -67,8 +67,11 @@ impl<'a> Iterator for BySlot<'a> {
     }
 }
 
-/// The slot and the index of the record that comes next: in their order, or slot by slot.
-fn place_of_next(outbox: &Outbox, rising: bool, slot: u16, at: usize) -> Option<(u16, usize)>
+/// The slot and the index of the record that comes next in a walk that borrows nothing, for a
+/// caller that goes on later: from that index on, of all records if `rising` (see [`is_rising`]),
+/// else of that slot and then of those above. None if no record is left. It goes on from the slot
+/// and the index that come back, plus 1; a walk begins at slot 0 and index 0.
+pub fn place_of_next(outbox: &Outbox, rising: bool, slot: u16, at: usize) -> Option<(u16, usize)>
     ensures some { IfSome result (λ place. IsNext place.1
         (left_of rising slot at outbox.now.records)
         (left_of rising place.0 (place.1 + 1) outbox.now.records) outbox.now.records) }
@@ -132,8 +135,8 @@ fn nearer(slot: u16, least: Option<u16>, other: u16) -> Option<u16>
 }
 
 /// Whether no record is of a lower slot than the one before it: such records go out in their
-/// order.
-fn is_rising(outbox: &Outbox) -> bool
+/// order, so that a walk ([`place_of_next`]) need not look for slots.
+pub fn is_rising(outbox: &Outbox) -> bool
     ensures { result ≡ true → by_slot outbox.now.records ≡ outbox.now.records }
 {
     let mut slot = 0;

@@ -20,7 +20,7 @@ mod outbox;
 mod room;
 mod row;
 
-pub use by_slot::BySlot;
+pub use by_slot::{BySlot, is_rising, place_of_next};
 pub use outbox::Outbox;
 pub use room::Room;
 pub use row::{Heading, PlainAnswer, ReplyHeading, RowForm};
