@@ -85,9 +85,9 @@ impl Records {
             ≡ slice_get (by_slot self.old.records) index }
     {
         match self.cursor.moved_to(&self.outbox, index) {
-            Some(cursor) => {
+            Some((cursor, at)) => {
                 self.cursor = cursor;
-                cursor.at
+                at
             }
             None => self.outbox.len(),
         }

@@ -42,7 +42,6 @@ mod record;
 mod record_numbers;
 mod results;
 mod start;
-mod walk;
 
 ghost use Rattle.std.specs.Prelude.{◌≡◌, ◌≢◌, []};
 ghost use Rattle.std.specs.Borrow.{sem};
