@@ -30,6 +30,7 @@ def library_files(archive: bytes, shared: bytes, proof: str, number: str, day: s
     major = number.partition(".")[0]
     found = [
         File("usr/include/trdp_node.h", text_of("clients/c/trdp_node.h").encode()),
+        File("usr/include/trdp_node_udp.h", text_of("clients/c/trdp_node_udp.h").encode()),
         File(f"{LIBRARIES}/libtrdp_node.a", archive),
         File(f"{LIBRARIES}/{NAME}.{number}", shared),
         File(f"{LIBRARIES}/{NAME}.{NUMBER}", b"", target=f"{NAME}.{number}"),
