@@ -290,8 +290,9 @@ struct trdp_node_name {
 };
 
 /* The functions of libtrdp_node.a. They look at no pointer: use those below, or do as they do. A node
- * that trdp_node_raw_open wrote is good for each of them until trdp_node_raw_close. Bytes, line and
- * config may have any pointer that isn't NULL if their length is 0. */
+ * that trdp_node_raw_open wrote is good for each of them until trdp_node_raw_close. It writes NULL if
+ * the configuration has a fault. Bytes, line and config may have any pointer that isn't NULL if their
+ * length is 0. */
 void trdp_node_raw_open(const uint8_t *config, size_t length, void **node,
                         struct trdp_node_fault *fault);
 void trdp_node_raw_close(void *node);
@@ -361,8 +362,9 @@ static inline const uint8_t *trdp_node_bytes(const void *bytes, size_t length) {
     return length ? (const uint8_t *)bytes : (const uint8_t *)"";
 }
 
-/* Opens a node of a configuration in TOML. It must not be open. If the configuration has a fault,
- * BAD_CONFIG, or OUT_OF_MEMORY; then `fault` says which, and `node` is as it was. */
+/* Opens a node of a configuration in TOML. It must not be open: it would be lost, with its memory. If
+ * the configuration has a fault, BAD_CONFIG, or OUT_OF_MEMORY; then `fault` says which, and `node` is
+ * as it was. */
 static inline enum trdp_node_status trdp_node_open(struct trdp_node *node, const void *config,
                                                    size_t length, struct trdp_node_fault *fault) {
     void *at = NULL;
