@@ -1,6 +1,7 @@
 -- How a node is opened, and how the fault of a configuration is told.
 use Rattle.std.specs.Prelude.{◌≡◌, ℕ, ◌-◌, List, [], ◌++◌, length, replicate, Result, Ok, Err}
-use Rattle.std.specs.Prelude.{◌⊎◌, Option, Some, None}
+use Rattle.std.specs.Prelude.{Option, Some, None}
+use denote.RawPtr.{Ptr, null_ptr}
 use Rattle.trdp_dataset.specs.declared.fault.ConfigFault.{ConfigFault}
 use Rattle.trdp_dataset.specs.Configs.{ConfigModel, ReadsToml, config_of}
 use Rattle.trdp_dataset.specs.Faults.{rank}
@@ -35,8 +36,10 @@ fault_told None = record { number = 0; text = filled 60 [] }
 fault_told (Some fault) =
     record { number = rank fault; text = filled 60 (text_of_config_fault fault) }
 
--- what C is told of a configuration in these bytes: its fault, or that it has none
-abbrev pub TellsOpening : List ℕ → Fault → Type 0
-TellsOpening bytes told =
-    ((config : ConfigModel) × ReadsToml config_of bytes (Ok config) × (told ≡ fault_told None))
-    ⊎ ((fault : ConfigFault) × Refuses bytes fault × (told ≡ fault_told (Some fault)))
+-- what C is told of a configuration in these bytes, and the node that it gets: one that was just
+-- opened with it; or the fault, a null pointer and no node
+abbrev pub TellsOpening : List ℕ → Fault → Ptr → Option HeldNode → Type 0
+TellsOpening bytes told at (Some held) = Opens bytes held × (told ≡ fault_told None)
+TellsOpening bytes told at None =
+    (at ≡ null_ptr)
+    × ((fault : ConfigFault) × Refuses bytes fault × (told ≡ fault_told (Some fault)))

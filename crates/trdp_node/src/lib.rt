@@ -7,6 +7,10 @@
 //! as text ([`trdp_node_raw_text`]). Three functions give names, and three tell a test what the
 //! library takes for the layout of the header's structs.
 //!
+//! **Proved**, of the opening: the pointer that it writes is that of a node which was just opened
+//! with the configuration, and which C now owns. If the configuration has a fault, the pointer is
+//! null, and number and text are those of the fault.
+//!
 //! **Proved**, of each export that takes a node's pointer: whatever C hands in, it is safe, and
 //! afterwards a node lies at the pointer again, of which the contract says what became of it
 //! (`specs/Outcomes`). An event is the one that its numbers mean (`specs/EventOf`), the node is the
@@ -15,18 +19,16 @@
 //! changes nothing. An event whose status is `OUT_OF_MEMORY` has changed nothing. With `TEXT_LOST`
 //! the event was processed, and its records are there.
 //!
-//! **Proved**, of the others: which fault the configuration has, in number and text, and that the
-//! names are those of the script.
+//! **Proved**, of the others: that the names are those of the script.
 //!
 //! **Tested**, in `clients/c`: that the header has the structs and numbers of the library, and that
 //! both ways to hand in an event do what `trdpd run` does.
 //!
-//! **Trusted**: that the pointer that [`trdp_node_raw_open`] writes is that of a node, as the
-//! other exports require it (its contract tells the fault alone); that C hands in such a pointer,
-//! until it closes the node, from one thread at a time; that its other pointers are good, are no
-//! part of the node, and are what their types say; the inline functions of the header; that the
-//! three functions which C gives for memory are an allocator; and the compiler. That the address
-//! in a record is that of its bytes is seen by reading `put` in `record.rt`.
+//! **Trusted**: that C hands in the pointer that [`trdp_node_raw_open`] wrote, until it closes the
+//! node, from one thread at a time; that its other pointers are good, are no part of the node, and
+//! are what their types say; the inline functions of the header; that the three functions which C
+//! gives for memory are an allocator; and the compiler. That the address in a record is that of its
+//! bytes is seen by reading `put` in `record.rt`.
 #![tactic(auto)]
 
 mod cursor;
@@ -43,7 +45,7 @@ mod record_numbers;
 mod results;
 mod start;
 
-ghost use Rattle.std.specs.Prelude.{◌≡◌, ◌≢◌, []};
+ghost use Rattle.std.specs.Prelude.{◌≡◌, ◌≢◌, [], Option};
 ghost use Rattle.std.specs.Borrow.{sem};
 ghost use Rattle.std_alloc.specs.Box.Ownership.{box_owns};
 ghost use Rattle.std.specs.contracts.impls.GlobalAllocator.TheImpl.{ghosts};
@@ -54,17 +56,18 @@ ghost use Rattle.trdp_pd.specs.declared.object.Reason.{Reason};
 ghost use Rattle.trdp_text.specs.RecordText.{name_of_fault, name_of_reason, name_of_refusal};
 ghost use Rattle.trdp_node.specs.Codes.{reason_code, refusal_code, status_of_fault};
 ghost use Rattle.trdp_node.specs.Openings.{TellsOpening, filled};
+ghost use Rattle.trdp_node.specs.Owning.{owns_if};
 ghost use Rattle.trdp_node.specs.Outcomes.{Prints, ShowsRecord, Steps, TakesInLine, TellsState};
 
 use crate::held::HeldNode;
-use crate::owned::Owned;
+use crate::owned::{Owned, OwnedOrNull};
 pub use event::EventNumbers;
 pub use record::RecordNumbers;
 pub use results::{Done, Fault, Name, State, Text};
 use std::alloc::Global;
 
-/// Opens a node with the configuration of a file in TOML, and writes where it lies; or writes the
-/// fault of the configuration.
+/// Opens a node with the configuration of a file in TOML, and writes where it lies; or writes null
+/// and the fault of the configuration.
 #[unsafe(no_mangle)]
 pub extern "C" fn trdp_node_raw_open(
     alloc: Global,
@@ -72,21 +75,38 @@ pub extern "C" fn trdp_node_raw_open(
     at: &mut *mut u8,
     fault: &mut Fault,
 )
-    ensures { TellsOpening config.now fault.new }
+    ensures* { ∃ₛ (λ (held : Option HeldNode). sem 𝓛
+        (owns_if (ghosts.dealloc_token alloc) held_row at.new held)
+        ∗ ⌜ TellsOpening config.now fault.new at.new held ⌝) }
+{
+    let OwnedOrNull {
+        at: place,
+        alloc: _,
+    } = open(alloc, config, fault);
+    put_pointer(at, place as *mut u8);
+}
+
+/// Opens a node, or writes why there is none.
+fn open(alloc: Global, config: &[u8], fault: &mut Fault) -> OwnedOrNull<HeldNode, Global>
+    ensures { TellsOpening config.now fault.new result.at result.value }
 {
     match HeldNode::open(alloc, config) {
         Ok(held) => {
             fault.put_none();
-            *at = hide(held);
+            OwnedOrNull::of(held)
         }
-        Err(why) => fault.put(why),
+        Err(why) => {
+            fault.put(why);
+            OwnedOrNull::none(alloc)
+        }
     }
 }
 
-/// Where the node lies from now on.
-fn hide(held: Box<HeldNode, Global>) -> *mut u8 {
-    let at = Box::into_raw(held);
-    at as *mut u8
+/// Writes a pointer.
+fn put_pointer(at: &mut *mut u8, pointer: *mut u8)
+    ensures { at.new ≡ pointer }
+{
+    *at = pointer;
 }
 
 /// Frees a node.
