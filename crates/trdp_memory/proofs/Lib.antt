@@ -1,3 +1,5 @@
+pub mod FirstLemmas
 pub mod GiveRowLemmas
 pub mod TakeRowLemmas
 pub mod MemoryWireLemmas
+pub mod ConnectionLemmas

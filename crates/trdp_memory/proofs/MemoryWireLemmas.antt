@@ -1,15 +1,17 @@
 -- What the calls of a wire in memory do to it.
--- For `MemoryWire::arrive`, `take`, `give` and `rest`.
+-- For `MemoryWire::lay_down`, `receive`, `take`, `find`, `give` and `rest`.
 -- By cases: the wire has room for one thing more, or the call fails and is counted.
 use Rattle.std.proofs.Common.{◌≡◌, ◌==◌, ◌&&◌, ◌||◌, ◌<◌, ◌+◌, ◌-◌, ◌^◌, zero, suc}
 use Rattle.std.proofs.Common.{ℕ, Bool, true, false, nat_lt, if◌then◌else◌, List, []}
-use Rattle.std.proofs.Common.{Option, ◌∷◌, ◌++◌, refl, sym, ◌∙◌, ap, arith, length, eqb-true}
+use Rattle.std.proofs.Common.{rules, Option, ◌∷◌, ◌++◌, refl, sym, ◌∙◌, ap, arith, length, eqb-true}
 use Rattle.trdp_wire.specs.declared.port.Port.{Port}
 use Rattle.trdp_wire.specs.Told.{has_failed, Arrived, Taking, Give}
 use Rattle.trdp_memory.specs.MemoryWires.{ArrivalModel, MemoryWireState, with_arrival}
 use Rattle.trdp_memory.specs.MemoryWires.{is_failing, takes_at, arrival_for}
 use Rattle.trdp_wire.specs.Failures.{failure_after, one_more_if}
 use Rattle.trdp_memory.specs.MemoryWires.{next_take_fails, next_arrival, is_give_beyond}
+use Rattle.trdp_memory.specs.MemoryWires.{ends_at, next_ends, told}
+use Rattle.trdp_base.specs.Reported.{TellsMore}
 use Rattle.trdp_memory.specs.MemoryWires.{next_give_fails, after_take, after_give}
 use Rattle.trdp_memory.specs.MemoryWires.{after_rest, refusal_behind}
 use Rattle.trdp_wire.specs.declared.refusal.GiveRefusal.{GiveRefusal}
@@ -112,6 +114,54 @@ take_within w taking takings failures room some more is less =
       failures = one_more_if (has_failed taking.arrived) w.failures;
       take_room = w.take_room - 1;
     } in x) (not_zero w.take_room some)
+
+-- whether a take hands in an end, beyond that room and within it
+pub ends_beyond : (w : MemoryWireState) (port : Port) (looks : Bool)
+    → w.take_room ≡ 0 → false ≡ (looks && next_ends w port)
+unfolding next_ends next_take_fails
+ends_beyond w port false none = refl
+ends_beyond w port true none =
+    let beyond : next_take_fails w ≡ true = ap (λ b. b || is_failing w.laid_down.failing_takes
+    (length w.takings + 1)) (is_zero w.take_room none) in
+    by_true (next_take_fails w) false
+    (ends_at w.laid_down.arrivals port (takes_at port w.takings + 1)) beyond
+
+pub ends_within : (w : MemoryWireState) (port : Port) (number : ℕ) (fails : Bool)
+    → 0 < w.take_room → fails ≡ is_failing w.laid_down.failing_takes (length w.takings + 1)
+    → number ≡ takes_at port w.takings + 1
+    → (if fails then false else ends_at w.laid_down.arrivals port number) ≡ next_ends w port
+unfolding next_ends next_take_fails
+ends_within w port number fails some which nth =
+    let same : fails ≡ next_take_fails w = which
+    ∙ ap (λ b. b || is_failing w.laid_down.failing_takes (length w.takings + 1))
+    (sym (not_zero w.take_room some)) in
+    ap (λ b. if b then false else ends_at w.laid_down.arrivals port number) same
+    ∙ ap (λ n. if next_take_fails w then false else ends_at w.laid_down.arrivals port n) nth
+
+-- what a wire reports after a take
+more_told : {X : Type 0} (tells : Bool) (xs more : List X)
+    → TellsMore (told tells xs) (told tells (xs ++ more)) more
+more_told true xs more = refl
+more_told false xs more = tt
+
+same_told : {X : Type 0} (tells : Bool) (xs : List X)
+    → TellsMore (told tells xs) (told tells xs) []
+same_told true xs = search rules
+same_told false xs = tt
+
+pub take_told : (w : MemoryWireState) (taking : Taking) (beyond : Bool)
+    → (w.take_room == 0) ≡ beyond → TellsMore (told w.tells w.takings)
+    (told (after_take w taking).tells (after_take w taking).takings) (taking ∷ [])
+unfolding after_take
+take_told w taking true is = rw is tt
+take_told w taking false is = rw is (more_told w.tells w.takings (taking ∷ []))
+
+pub take_gives_none : (w : MemoryWireState) (taking : Taking) (beyond : Bool)
+    → (w.take_room == 0) ≡ beyond → TellsMore (told w.tells w.gives)
+    (told (after_take w taking).tells (after_take w taking).gives) []
+unfolding after_take
+take_gives_none w taking true is = rw is tt
+take_gives_none w taking false is = rw is (same_told w.tells w.gives)
 
 -- a give beyond the wire's rooms
 pub fails_beyond : (w : MemoryWireState) (bytes : ℕ) (failed : Bool) → is_give_beyond w bytes ≡ true

@@ -1,16 +1,13 @@
 -- What arrives at a wire in memory.
 -- For `take_arrival`, `MemoryWire::arrive`, `take` and `rest`.
 -- By induction on the arrivals: the first at that port is where the search ends.
-use Rattle.std.proofs.Common.{◌≡◌, ◌<◌, ◌≤◌, ◌+◌, zero, suc, ℕ, Bool, true, false}
-use Rattle.std.proofs.Common.{cond, nat_lt, List, [], ◌∷◌, ◌++◌, Some, None, refl, sym}
-use Rattle.std.proofs.Common.{◌∙◌, ap, arith, length, map, take, get_or, length-append}
+use Rattle.std.proofs.Common.{◌≡◌, ◌<◌, ◌≤◌, ◌+◌, zero, suc, ℕ, Bool}
+use Rattle.std.proofs.Common.{cond, List, [], ◌∷◌, ◌++◌, Some, None, refl, sym}
+use Rattle.std.proofs.Common.{◌∙◌, ap, arith, length, map, take, length-append}
 use Rattle.std.specs.Prelude.{slice_get}
-use Rattle.std.specs.List.{position, position_or_len, find, count_by}
-use Rattle.std.proofs.lemmas.Bool.{ltb-false, ltb-true}
+use Rattle.std.specs.List.{position, count_by}
 use Rattle.std.proofs.lemmas.List.{map-append}
-use Rattle.std.proofs.lemmas.List.Folds.{find_at}
 use Rattle.std.proofs.lemmas.List.Sums.{sum_by-cons}
-use Rattle.std.proofs.lemmas.Option.{slice_get_past, slice_get-get_or}
 use Rattle.trdp_wire.specs.declared.port.Port.{Port}
 use Rattle.trdp_memory.specs.declared.rows.TakeRow.{TakeRow}
 use Rattle.trdp_memory.specs.declared.rows.TakeAnswer.{TakeAnswer}
@@ -20,43 +17,8 @@ use Rattle.trdp_memory.specs.declared.rows.TakeAnswer.TheVariants.{Came as RowCa
 use Rattle.trdp_memory.specs.MemoryWires.{ArrivalModel, arrives_at, arrival_for, cut_to, takes_at}
 use Rattle.trdp_wire.specs.Ports.{is_port}
 use Rattle.trdp_memory.specs.Rows.{arrived_of, row_taking, IsLaidDown, AreLaidDown}
-use Rattle.trdp_wire.specs.Told.{nowhere, Arrived, Nothing, Came, Taking, taking_at}
-
--- the first element that passes is at the first index at which one does
-found_none : {X : Type 0} (p : X → Bool) (xs : List X) → position p xs ≡ None → find p xs ≡ None
-found_none p xs none = by_test (nat_lt (position_or_len p xs) (length xs)) refl none
-  where
-    by_test : (b : Bool) → nat_lt (position_or_len p xs) (length xs) ≡ b
-        → cond b (Some (position_or_len p xs)) None ≡ None → find p xs ≡ None
-    by_test true is none = absurd (cc)
-    by_test false is none = find_at p xs
-        ∙ slice_get_past xs (position_or_len p xs) (ltb-false (position_or_len p xs) (length xs) is)
-
-found_some : {X : Type 0} (p : X → Bool) (xs : List X) (i : ℕ)
-    → position p xs ≡ Some i → find p xs ≡ slice_get xs i
-found_some p xs i some = by_test (nat_lt (position_or_len p xs) (length xs)) refl some
-  where
-    by_test : (b : Bool) → nat_lt (position_or_len p xs) (length xs) ≡ b
-        → cond b (Some (position_or_len p xs)) None ≡ Some i → find p xs ≡ slice_get xs i
-    by_test true is some = let at : position_or_len p xs ≡ i = cc in
-        find_at p xs ∙ ap (slice_get xs) at
-    by_test false is some = absurd (cc)
-
-found_below : {X : Type 0} (p : X → Bool) (xs : List X) (i : ℕ)
-    → position p xs ≡ Some i → i < length xs
-found_below p xs i some = by_test (nat_lt (position_or_len p xs) (length xs)) refl some
-  where
-    by_test : (b : Bool) → nat_lt (position_or_len p xs) (length xs) ≡ b
-        → cond b (Some (position_or_len p xs)) None ≡ Some i → i < length xs
-    by_test true is some = let at : position_or_len p xs ≡ i = cc in
-        let below = ltb-true (position_or_len p xs) (length xs) is in omega (arith, at, below)
-    by_test false is some = absurd (cc)
-
--- what is at that index
-pub element_found : {X : Type 0} (p : X → Bool) (xs : List X) (i : ℕ) (x : X)
-    → position p xs ≡ Some i → x ≡ get_or xs i x → slice_get xs i ≡ Some x
-element_found {X} p xs i x some is = slice_get-get_or xs i x (found_below p xs i some)
-    ∙ ap (λ (y : X). Some y) (sym is)
+use Rattle.trdp_memory.proofs.FirstLemmas.{found_none, found_some}
+use Rattle.trdp_wire.specs.Told.{Arrived, Nothing, Came, Taking, taking_at}
 
 pub arrives_not : (arrivals : List ArrivalModel) (port : Port) (number room : ℕ)
     → position (arrives_at port number) arrivals ≡ None
@@ -94,7 +56,7 @@ pub takings_more : (arrivals : List ArrivalModel) (arrival : ArrivalModel) (rows
     → map (row_taking (arrivals ++ arrival ∷ [])) rows ≡ map (row_taking arrivals) rows
 takings_more arrivals arrival [] within = refl
 takings_more arrivals arrival (row ∷ rows) within =
-    ap (λ a. taking_at row.port row.room nowhere a
+    ap (λ a. taking_at row.port row.room (λ place. row.ended) a
     ∷ map (row_taking (arrivals ++ arrival ∷ [])) rows)
     (arrived_more arrivals arrival row.answer within.0)
     ∙ ap (λ l. row_taking arrivals row ∷ l) (takings_more arrivals arrival rows within.1)
@@ -128,16 +90,16 @@ pub within_row : (n : ℕ) (rows new : List TakeRow) (row : TakeRow)
 within_row n rows new row is all own = rw is (within_push n rows row all own)
 
 pub takings_push : (arrivals : List ArrivalModel)
-    (rows new : List TakeRow) (port : Port) (room : ℕ) (answer : TakeAnswer) (arrived : Arrived)
-    → new ≡ rows
-    ++ (let row : TakeRow = record { port = port; room = room; answer = answer } in row) ∷ []
+    (rows new : List TakeRow) (port : Port) (room : ℕ) (answer : TakeAnswer) (ended : Bool)
+    (arrived : Arrived) → new ≡ rows ++ (let row : TakeRow =
+    record { port = port; room = room; answer = answer; ended = ended } in row) ∷ []
     → arrived_of arrivals answer ≡ arrived
     → map (row_taking arrivals) new ≡ map (row_taking arrivals) rows
-    ++ taking_at port room nowhere arrived ∷ []
-takings_push arrivals rows new port room answer arrived is told =
+    ++ taking_at port room (λ place. ended) arrived ∷ []
+takings_push arrivals rows new port room answer ended arrived is told =
     ap (map (row_taking arrivals)) is ∙ map-append (row_taking arrivals) rows _
     ∙ ap (λ a. map (row_taking arrivals) rows
-    ++ taking_at port room nowhere a ∷ []) told
+    ++ taking_at port room (λ place. ended) a ∷ []) told
 
 pub many_takings : (arrivals : List ArrivalModel) (rows : List TakeRow)
     → length (map (row_taking arrivals) rows) ≡ length rows

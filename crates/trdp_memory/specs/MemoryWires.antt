@@ -14,12 +14,13 @@ use Rattle.trdp_wire.specs.Refusals.{refusal_after}
 use Rattle.trdp_wire.specs.Told.{Arrived, Failed, Nothing, Came, Taking, Give, has_failed}
 
 -- a datagram that was laid down: the port that it arrives at, at which take there, counted from 1,
--- where it comes from, and its bytes
+-- where it comes from, its bytes, and whether it is the end of the application there
 pub record ArrivalModel : Type 0 where
   pub port : Port
   pub at_take : ℕ
   pub from : Place
   pub bytes : List ℕ
+  pub ends : Bool
 
 -- what was laid down: what arrives, and the numbers of the takes and of the gives that fail,
 -- counted from 1 over all ports
@@ -90,6 +91,14 @@ cut_to room (Some arrival) = Came arrival.from (take room arrival.bytes)
 unfoldable pub arrival_for : List ArrivalModel → Port → ℕ → ℕ → Arrived
 arrival_for arrivals port number room = cut_to room (find (arrives_at port number) arrivals)
 
+-- whether what was laid down for that take is the end of an application
+abbrev pub is_end_if : Option ArrivalModel → Bool
+is_end_if None = false
+is_end_if (Some arrival) = arrival.ends
+
+unfoldable pub ends_at : List ArrivalModel → Port → ℕ → Bool
+ends_at arrivals port number = is_end_if (find (arrives_at port number) arrivals)
+
 -- whether the next take fails: it is beyond the wire's room, or was laid down to fail
 unfoldable pub next_take_fails : MemoryWireState → Bool
 next_take_fails wire = wire.take_room == 0
@@ -100,6 +109,12 @@ unfoldable pub next_arrival : MemoryWireState → Port → ℕ → Arrived
 next_arrival wire port room =
     if next_take_fails wire then failure_after wire.failures
     else arrival_for wire.laid_down.arrivals port (takes_at port wire.takings + 1) room
+
+-- whether that is the end of an application
+unfoldable pub next_ends : MemoryWireState → Port → Bool
+next_ends wire port =
+    if next_take_fails wire then false
+    else ends_at wire.laid_down.arrivals port (takes_at port wire.takings + 1)
 
 -- a room that a take has put this into
 unfoldable pub room_after : Arrived → List ℕ → List ℕ

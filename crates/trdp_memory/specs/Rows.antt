@@ -1,6 +1,5 @@
 -- What a wire in memory remembers of its takes and gives.
-use Rattle.std.specs.Prelude.{ℕ, ◌+◌, ◌<◌, List, [], ◌∷◌, take, drop, slice_get, Bool, false}
-use Rattle.trdp_base.specs.declared.place.Place.{Place}
+use Rattle.std.specs.Prelude.{ℕ, ◌+◌, ◌<◌, List, [], ◌∷◌, take, drop, slice_get}
 use Rattle.trdp_memory.specs.declared.rows.TakeRow.{TakeRow}
 use Rattle.trdp_memory.specs.declared.rows.TakeAnswer.{TakeAnswer}
 use Rattle.trdp_memory.specs.declared.rows.TakeAnswer.TheVariants.{Failed as RowFailed}
@@ -8,7 +7,7 @@ use Rattle.trdp_memory.specs.declared.rows.TakeAnswer.TheVariants.{Nothing as Ro
 use Rattle.trdp_memory.specs.declared.rows.TakeAnswer.TheVariants.{Came as RowCame}
 use Rattle.trdp_memory.specs.declared.rows.GiveRow.{GiveRow}
 use Rattle.trdp_memory.specs.MemoryWires.{ArrivalModel, cut_to}
-use Rattle.trdp_wire.specs.Told.{Arrived, Failed, Nothing, Taking, Give, nowhere, offer_to}
+use Rattle.trdp_wire.specs.Told.{Arrived, Failed, Nothing, Taking, Give, offer_to}
 use Rattle.trdp_wire.specs.Told.{taking_at}
 
 -- what a take answered, where these were laid down
@@ -20,7 +19,7 @@ arrived_of arrivals (RowCame index len) = cut_to len (slice_get arrivals index)
 -- the taking of a row
 abbrev pub row_taking : List ArrivalModel → TakeRow → Taking
 row_taking arrivals row =
-    taking_at row.port row.room nowhere (arrived_of arrivals row.answer)
+    taking_at row.port row.room (λ place. row.ended) (arrived_of arrivals row.answer)
 
 -- what a take answered is one of n things that were laid down, if it is one
 abbrev pub IsLaidDown : ℕ → TakeAnswer → Type 0

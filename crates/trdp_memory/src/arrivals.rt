@@ -1,12 +1,12 @@
 //! What is to arrive at a wire in memory.
 
 ghost use Rattle.std.specs.Prelude.{◌≡◌, ◌≤◌, ◌++◌, take, drop, length, IfOk, IfSome, OnErr, ◌<◌};
-ghost use Rattle.std.specs.Prelude.{if◌then◌else◌, ℕ, List, None, Ok};
+ghost use Rattle.std.specs.Prelude.{if◌then◌else◌, ◌&&◌, false, ℕ, List, None, Ok};
 ghost use Rattle.std.specs.List.{position, count_by};
 ghost use Rattle.trdp_wire.specs.Told.{has_failed, arrival_in, arrived_in};
 ghost use Rattle.trdp_memory.specs.MemoryWires.{ArrivalModel, arrival_for, arrives_at, is_failing};
 ghost use Rattle.trdp_wire.specs.Failures.{failure_after, one_more_if};
-ghost use Rattle.trdp_memory.specs.MemoryWires.{room_after};
+ghost use Rattle.trdp_memory.specs.MemoryWires.{ends_at, room_after};
 ghost use Rattle.trdp_wire.specs.Ports.{is_port};
 ghost use Rattle.trdp_memory.specs.Rows.{IsLaidDown, arrived_of};
 
@@ -26,6 +26,8 @@ pub(crate) struct Arrival {
     pub(crate) from: Place,
     /// Its bytes.
     pub(crate) bytes: Vec<u8>,
+    /// Whether it is the end of the application there.
+    pub(crate) ends: bool,
 }
 
 impl Model for Arrival {
@@ -38,6 +40,7 @@ impl Model for Arrival {
       at_take = a.at_take;
       from = a.from;
       bytes = a.bytes.items;
+      ends = a.ends;
     } };
 }
 
@@ -73,6 +76,32 @@ fn arrival_index(arrivals: &[Arrival], port: Port, number: usize) -> Option<usiz
     arrivals
         .iter()
         .position(|arrival| arrival.is_at(port, number))
+}
+
+/// Whether what arrives at that take at a port is the end of an application.
+fn is_end_at(arrivals: &[Arrival], port: Port, number: usize) -> bool
+    ensures { result ≡ ends_at arrivals.now port number }
+{
+    match arrival_index(arrivals, port, number) {
+        None => false,
+        Some(index) => {
+            let arrival = &arrivals[index];
+            arrival.ends
+        }
+    }
+}
+
+/// Whether a take hands in the end of an application, where that is looked for.
+pub(crate) fn hands_end(
+    arrivals: &[Arrival],
+    looks: bool,
+    fails: bool,
+    port: Port,
+    number: usize,
+) -> bool
+    ensures { result ≡ (looks && (if fails then false else ends_at arrivals.now port number)) }
+{
+    looks && !fails && is_end_at(arrivals, port, number)
 }
 
 /// What a take answers after others at its port, and the row that records it.

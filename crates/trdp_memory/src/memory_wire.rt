@@ -1,15 +1,12 @@
 //! A wire in memory, for tests.
 
-ghost use Rattle.std.specs.Prelude.{◌≡◌, ◌<◌, ◌≤◌, ◌+◌, ◌++◌, ◌∷◌, [], length};
-ghost use Rattle.std.specs.Prelude.{vec_len, vec_capacity};
-ghost use Rattle.std.specs.Prelude.{◌-◌, ◌^◌, ◌&&◌, nat_lt, is_err, OnErr};
-ghost use Rattle.trdp_wire.specs.Failures.{one_more_if};
-ghost use Rattle.trdp_memory.specs.Rows.{bytes_in, gives_of, row_give};
+mod laid_down;
 
-use crate::arrivals::{Arrival, answer_take, failing_take, is_failing, takes_at};
+use crate::arrivals::{Arrival, answer_take, failing_take, hands_end, is_failing, takes_at};
 use crate::no_way::keep_refusal;
 use crate::offers::Offers;
 use crate::rows::{GiveRow, Rest, TakeRow};
+use crate::within_rooms::{fail_if, push_give, push_rest, push_take};
 use std::alloc::{AllocError, Global};
 use std::marker::Model;
 use trdp_base::Place;
@@ -79,12 +76,14 @@ impl Model for MemoryWire {
 }
 
 impl MemoryWire {
-    ghost use Rattle.std.specs.Prelude.{◌≡◌, [], IfOk, OnOk, OnErr, map};
+    ghost use Rattle.std.specs.Prelude.{◌≡◌, [], IfOk, OnErr, map};
     ghost use Rattle.std.specs.Prelude.{true, false, ◌<◌, ◌≤◌, None};
     ghost use Rattle.std.specs.List.{flat_map};
-    ghost use Rattle.trdp_memory.specs.MemoryWires.{nothing_laid_down, with_arrival};
-    ghost use Rattle.trdp_memory.specs.MemoryWires.{is_give_beyond, with_failing_give};
-    ghost use Rattle.trdp_memory.specs.MemoryWires.{with_failing_take};
+    ghost use Rattle.std.specs.Prelude.{length, IfSome, ◌&&◌};
+    ghost use Rattle.trdp_memory.specs.MemoryWires.{is_give_beyond, nothing_laid_down};
+    ghost use Rattle.trdp_memory.specs.MemoryWires.{after_take, next_arrival, next_ends};
+    ghost use Rattle.trdp_memory.specs.MemoryWires.{room_after};
+    ghost use Rattle.trdp_wire.specs.Told.{arrived_in, taking_of};
 
     /// A wire over which nothing arrives yet, with room for that many takes, gives, and bytes of
     /// gives.
@@ -150,59 +149,51 @@ impl MemoryWire {
         &self.rested
     }
 
-    /// Lays down that a datagram arrives at the port at the take of that number, from 1; of two
-    /// for one take the first arrives.
+    /// Takes the next datagram at a port, and returns too whether it is the end of an application,
+    /// if that is looked for.
     ///
     /// # Errors
-    /// `AllocError` where an allocation for it fails.
-    pub fn arrive(
+    /// `WireFault` beyond the room for takes, and where it was laid down.
+    fn receive(
         &mut self,
         port: Port,
-        take: usize,
-        from: Place,
-        bytes: &[u8],
-    ) -> Result<(), AllocError>
-        ensures laid_down { OnOk result (self.new ≡ with_arrival self.old (record {
-          port = port;
-          at_take = take;
-          from = from;
-          bytes = bytes.now;
-        })) }
-        ensures kept { OnErr result (self.new ≡ self.old) }
+        looks: bool,
+        room: &mut [u8],
+    ) -> (Result<Option<(Place, usize)>, WireFault>, bool)
+        ensures within { IfOk result.0 (λ found. IfSome found (λ f. f.1 ≤ length room.new)) }
+        ensures fault { OnErr result.0 (self.old.failures < self.new.failures) }
+        ensures arrived { arrived_in result.0 room.new
+            ≡ next_arrival self.old port (length room.old) }
+        ensures ended { result.1 ≡ (looks && next_ends self.old port) }
+        ensures room { room.new ≡ room_after (arrived_in result.0 room.new) room.old }
+        ensures after { self.new ≡ after_take self.old
+            (taking_of port (λ _. looks && next_ends self.old port) result.0 room.new) }
     {
-        let bytes = bytes.to_vec(self.alloc)?;
-        self.arrivals.push(Arrival {
+        if self.taken.len() >= self.taken.capacity() {
+            self.tells = false;
+            let (_, result) = failing_take(&mut self.failures);
+            return (result, false);
+        }
+        let fails = is_failing(&self.failing_takes, self.taken.len() + 1);
+        let number = takes_at(&self.taken, port) + 1;
+        let ended = hands_end(&self.arrivals, looks, fails, port, number);
+        let (answer, result) = answer_take(
+            &self.arrivals,
+            &mut self.failures,
+            fails,
             port,
-            at_take: take,
-            from,
-            bytes,
-        })?;
-        Ok(())
-    }
-
-    /// Lays down that the take of that number fails, counted from 1 over all ports; what is to
-    /// arrive at it never comes.
-    ///
-    /// # Errors
-    /// `AllocError` where an allocation for it fails.
-    pub fn fail_take(&mut self, number: usize) -> Result<(), AllocError>
-        ensures laid_down { OnOk result (self.new ≡ with_failing_take self.old number) }
-        ensures kept { OnErr result (self.new ≡ self.old) }
-    {
-        self.failing_takes.push(number)?;
-        Ok(())
-    }
-
-    /// Lays down that the give of that number fails, counted from 1 over all ports.
-    ///
-    /// # Errors
-    /// `AllocError` where an allocation for it fails.
-    pub fn fail_give(&mut self, number: usize) -> Result<(), AllocError>
-        ensures laid_down { OnOk result (self.new ≡ with_failing_give self.old number) }
-        ensures kept { OnErr result (self.new ≡ self.old) }
-    {
-        self.failing_gives.push(number)?;
-        Ok(())
+            number,
+            room,
+        );
+        let room = room.len();
+        let row = TakeRow {
+            port,
+            room,
+            answer,
+            ended,
+        };
+        push_take(&mut self.taken, row);
+        (result, ended)
     }
 
     /// Whether the next give, of that many bytes, is beyond its rooms.
@@ -220,7 +211,7 @@ impl Wire for MemoryWire {
     ghost use Rattle.std.specs.Prelude.{◌≡◌, ◌<◌, ◌≤◌, ◌+◌, ◌∷◌, [], length, IfOk, IfSome, OnErr};
     ghost use Rattle.std.specs.Prelude.{is_err};
     ghost use Rattle.trdp_memory.specs.MemoryWires.{after_give, after_take, next_arrival};
-    ghost use Rattle.trdp_memory.specs.MemoryWires.{next_give_fails, room_after, told};
+    ghost use Rattle.trdp_memory.specs.MemoryWires.{next_ends, next_give_fails, room_after, told};
     ghost use Rattle.trdp_base.specs.Reported.{TellsMore};
     ghost use Rattle.trdp_wire.specs.Told.{arrived_in, give_of, nowhere, taking_of};
 
@@ -243,24 +234,31 @@ impl Wire for MemoryWire {
         ensures room { room.new ≡ room_after (arrived_in result room.new) room.old }
         ensures after { self.new ≡ after_take self.old (taking_of port nowhere result room.new) }
     {
-        if self.taken.len() >= self.taken.capacity() {
-            self.tells = false;
-            let (_, result) = failing_take(&mut self.failures);
-            return result;
-        }
-        let fails = is_failing(&self.failing_takes, self.taken.len() + 1);
-        let number = takes_at(&self.taken, port) + 1;
-        let (answer, result) = answer_take(
-            &self.arrivals,
-            &mut self.failures,
-            fails,
-            port,
-            number,
-            room,
-        );
-        let room = room.len();
-        push_take(&mut self.taken, TakeRow { port, room, answer });
-        result
+        let (found, _) = self.receive(port, false, room);
+        found
+    }
+
+    fn find(
+        &mut self,
+        port: Port,
+        _anew: bool,
+        room: &mut [u8],
+    ) -> (Result<Option<(Place, usize)>, WireFault>, bool)
+        ensures within { IfOk result.0 (λ found. IfSome found (λ f. f.1 ≤ length room.new)) }
+        ensures takes { TellsMore (told self.old.tells self.old.takings)
+            (told self.new.tells self.new.takings)
+            (taking_of port (λ _. result.1) result.0 room.new ∷ []) }
+        ensures gives_nothing { TellsMore (told self.old.tells self.old.gives)
+            (told self.new.tells self.new.gives) [] }
+        ensures fault { OnErr result.0 (self.old.failures < self.new.failures) }
+        ensures arrived { arrived_in result.0 room.new
+            ≡ next_arrival self.old port (length room.old) }
+        ensures ended { result.1 ≡ next_ends self.old port }
+        ensures room { room.new ≡ room_after (arrived_in result.0 room.new) room.old }
+        ensures after { self.new
+            ≡ after_take self.old (taking_of port (λ _. result.1) result.0 room.new) }
+    {
+        self.receive(port, true, room)
     }
 
     fn give(&mut self, port: Port, to: Place, bytes: &[u8]) -> Result<(), WireFault>
@@ -330,62 +328,4 @@ impl WatchedWire for MemoryWire {
     }
 
     fn set_news(&mut self, _port: Port, _may_be: bool) {}
-}
-
-/// Adds a rest within the room.
-fn push_rest(rested: &mut Vec<Rest>, rest: Rest)
-    requires { vec_len rested.old < vec_capacity rested.old }
-    ensures items { rested.new.items ≡ rested.old.items ++ rest ∷ [] }
-    ensures len { vec_len rested.new ≡ vec_len rested.old + 1 }
-    ensures capacity { vec_capacity rested.new ≡ vec_capacity rested.old }
-{
-    rested.push_reserved(rest);
-}
-
-/// Fails where it is to fail, unless the count of failures is at its last value.
-#[tactic(auto, unfolding(trdp_wire::specs::Failures::one_more_if))]
-fn fail_if(fails: bool, failures: &mut u64) -> Result<(), WireFault>
-    ensures fault { OnErr result (failures.old < failures.new) }
-    ensures fails { is_err result ≡ nat_lt failures.old (2 ^ 64 - 1) && fails }
-    ensures count { failures.new ≡ one_more_if (is_err result) failures.old }
-{
-    if fails { fail(failures) } else { Ok(()) }
-}
-
-/// Adds a row within the room.
-fn push_take(taken: &mut Vec<TakeRow>, row: TakeRow)
-    requires { vec_len taken.old < vec_capacity taken.old }
-    ensures items { taken.new.items ≡ taken.old.items ++ row ∷ [] }
-    ensures len { vec_len taken.new ≡ vec_len taken.old + 1 }
-    ensures capacity { vec_capacity taken.new ≡ vec_capacity taken.old }
-{
-    taken.push_reserved(row);
-}
-
-/// Adds a row and its bytes within the room.
-fn push_give(given: &mut Vec<GiveRow>, held: &mut Vec<u8>, row: GiveRow, bytes: &[u8])
-    requires row { vec_len given.old < vec_capacity given.old }
-    requires bytes { vec_len held.old + length bytes.now ≤ vec_capacity held.old }
-    requires len { row.len ≡ length bytes.now }
-    requires whole { bytes_in given.old.items ≡ length held.old.items }
-    ensures gives { gives_of held.new.items given.new.items
-        ≡ gives_of held.old.items given.old.items ++ row_give row bytes.now ∷ [] }
-    ensures whole { bytes_in given.new.items ≡ length held.new.items }
-    ensures given_len { vec_len given.new ≡ vec_len given.old + 1 }
-    ensures given_capacity { vec_capacity given.new ≡ vec_capacity given.old }
-    ensures held_len { vec_len held.new ≡ vec_len held.old + length bytes.now }
-    ensures held_capacity { vec_capacity held.old ≤ vec_capacity held.new }
-{
-    given.push_reserved(row);
-    append(held, bytes);
-}
-
-/// Adds bytes at the end, within the room.
-fn append(held: &mut Vec<u8>, bytes: &[u8])
-    requires { vec_len held.old + length bytes.now ≤ vec_capacity held.old }
-    ensures items { held.new.items ≡ held.old.items ++ bytes.now }
-    ensures len { vec_len held.new ≡ vec_len held.old + length bytes.now }
-    ensures capacity { vec_capacity held.old ≤ vec_capacity held.new }
-{
-    held.extend_from_slice(bytes).unwrap();
 }

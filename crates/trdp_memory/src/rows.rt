@@ -24,6 +24,8 @@ pub(crate) struct TakeRow {
     pub(crate) room: usize,
     /// What it answered.
     pub(crate) answer: TakeAnswer,
+    /// Whether that was handed in as the end of an application.
+    pub(crate) ended: bool,
 }
 
 /// One rest that a wire was asked for.

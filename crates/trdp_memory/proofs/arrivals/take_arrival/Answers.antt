@@ -1,7 +1,8 @@
 use Rattle.std.proofs.Common.{sym, ◌∙◌, ap, take, length}
 use Rattle.trdp_memory.specs.MemoryWires.{ArrivalModel, arrives_at, cut_to, room_after}
 use Rattle.trdp_wire.specs.Told.{Came}
-use Rattle.trdp_memory.proofs.TakeRowLemmas.{arrives_not, arrives, element_found}
+use Rattle.trdp_memory.proofs.FirstLemmas.{element_found}
+use Rattle.trdp_memory.proofs.TakeRowLemmas.{arrives_not, arrives}
 use Rattle.trdp_memory.proofs.arrivals.take_arrival.Goals as goal
 
 pub returns-in-None-clause-arrived : goal.returns-in-None-clause-arrived

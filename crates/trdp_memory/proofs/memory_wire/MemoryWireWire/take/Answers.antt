@@ -1,81 +1,21 @@
-use Rattle.std.proofs.Common.{◌≡◌, ◌+◌, ◌<◌, ◌∙◌, sym, ap, arith, length, subst, if◌then◌else◌}
-use Rattle.trdp_memory.specs.contracts.memory_wire.MemoryWire.{the_view}
-use Rattle.trdp_memory.specs.MemoryWires.{after_take, arrival_for}
-use Rattle.trdp_wire.specs.Failures.{failure_after}
-use Rattle.trdp_memory.specs.MemoryWires.{is_failing, next_arrival, takes_at}
-use Rattle.std.specs.List.{count_by}
-use Rattle.trdp_memory.specs.declared.rows.TakeRow.{TakeRow}
-use Rattle.trdp_wire.specs.Ports.{is_port}
-use Rattle.trdp_memory.specs.Rows.{IsLaidDown, arrived_of}
-use Rattle.trdp_wire.specs.Told.{nowhere, arrived_in, taking_of}
-use Rattle.trdp_memory.proofs.MemoryWireLemmas.{arrival_beyond, arrival_within, take_beyond}
-use Rattle.trdp_memory.proofs.MemoryWireLemmas.{take_within}
-use Rattle.trdp_memory.proofs.TakeRowLemmas.{takes_rows, takings_push, within_row, many_takings}
+use Rattle.std.proofs.Common.{◌==◌, ◌∷◌, [], refl, sym, subst}
+use Rattle.trdp_base.specs.Reported.{TellsMore}
+use Rattle.trdp_memory.specs.MemoryWires.{MemoryWireState, told}
+use Rattle.trdp_wire.specs.Told.{nowhere, taking_of}
+use Rattle.trdp_memory.proofs.MemoryWireLemmas.{take_gives_none, take_told}
 use Rattle.trdp_memory.proofs.memory_wire.MemoryWireWire.take.Goals as goal
 
-pub returns-then-len-capacity-clause-arrived : goal.returns-then-len-capacity-clause-arrived
-returns-then-len-capacity-clause-arrived c =
-    let none : (the_view c.self.inside).take_room ≡ 0 =
-    omega (arith, c.if-len-capacity.true, c.len.ensures, c.capacity.ensures) in
-    arrival_beyond (the_view c.self.inside) c.args.port
-    (length c.args.room.now) (arrived_in c.failing_take-result.result.1 c.args.room.now)
-    none (c.failing_take-result.ensures.arrived c.args.room.now)
-    ∙ ap (λ w. next_arrival w c.args.port (length c.args.room.now)) c.self.view_is
+pub returns-clause-takes : goal.returns-clause-takes
+returns-clause-takes c =
+    let w = c.args.self.now in
+    let taking = taking_of c.args.port nowhere c.receive-found.result.0 c.receive-found.new.room in
+    subst (λ (x : MemoryWireState). TellsMore (told w.tells w.takings)
+    (told x.tells x.takings) (taking ∷ [])) (sym c.receive-found.ensures.after)
+    (take_told w taking (w.take_room == 0) refl)
 
-pub returns-then-len-capacity-clause-after : goal.returns-then-len-capacity-clause-after
-returns-then-len-capacity-clause-after c =
-    let none : (the_view c.self.inside).take_room ≡ 0 =
-    omega (arith, c.if-len-capacity.true, c.len.ensures, c.capacity.ensures) in
-    let taking = taking_of c.args.port nowhere c.failing_take-result.result.1 c.args.room.now in
-    take_beyond (the_view c.self.inside) taking c.failing_take-result.new.failures
-    none (c.failing_take-result.ensures.failures c.args.room.now)
-    ∙ ap (λ w. after_take w taking) c.self.view_is
-
-pub invariant_of-self-2 : goal.invariant_of-self-2
-invariant_of-self-2 c = (
-  c.self.invariant.0,
-  within_row (length c.self.inside.arrivals.items)
-      c.self.inside.taken.items c.push_take.new.taken.items _ c.push_take.ensures.items
-      c.self.invariant.1 (subst (λ l. IsLaidDown (length l) c.answer_take-answer.result.0)
-      c.deref-3.ensures.value c.answer_take-answer.ensures.known),
-  c.self.invariant.2,
-)
-
-pub returns-clause-arrived : goal.returns-clause-arrived
-returns-clause-arrived c =
-    let w = the_view c.self.inside in
-    let some : 0 < w.take_room =
-    omega (arith, c.if-len-capacity.false, c.len.ensures, c.capacity.ensures) in
-    let many : c.len-2.result ≡ length c.self.inside.taken.items = omega (arith, c.len-2.ensures) in
-    let which : c.is_failing-fails.result
-    ≡ is_failing w.laid_down.failing_takes (length w.takings + 1) = c.is_failing-fails.ensures
-    ∙ ap (λ l. is_failing l (c.len-2.result + 1)) c.deref.ensures.value
-    ∙ ap (λ n. is_failing c.self.inside.failing_takes.items (n + 1)) (many
-    ∙ sym (many_takings c.self.inside.arrivals.items c.self.inside.taken.items)) in
-    let nth : c.takes_at-number.result + 1 ≡ takes_at c.args.port w.takings + 1 =
-    ap (λ n. n + 1) (c.takes_at-number.ensures
-    ∙ ap (λ l. count_by (λ (row : TakeRow). is_port row.port c.args.port) l) c.deref-2.ensures.value
-    ∙ takes_rows c.self.inside.arrivals.items c.args.port c.self.inside.taken.items) in
-    arrival_within w c.args.port (length c.args.room.now)
-    _ c.is_failing-fails.result _ some which nth
-    (c.answer_take-answer.ensures.arrived ∙ ap (λ l. if c.is_failing-fails.result
-    then failure_after c.self.inside.failures else arrival_for l c.args.port
-    (c.takes_at-number.result + 1) (length c.args.room.now)) c.deref-3.ensures.value)
-    ∙ ap (λ w. next_arrival w c.args.port (length c.args.room.now)) c.self.view_is
-
-pub returns-clause-after : goal.returns-clause-after
-returns-clause-after c =
-    let w = the_view c.self.inside in
-    let some : 0 < w.take_room =
-    omega (arith, c.if-len-capacity.false, c.len.ensures, c.capacity.ensures) in
-    let taking =
-    taking_of c.args.port nowhere c.answer_take-answer.result.1 c.answer_take-answer.new.room in
-    let more = takings_push c.self.inside.arrivals.items c.self.inside.taken.items
-    c.push_take.new.taken.items c.args.port _ c.answer_take-answer.result.0
-    (arrived_in c.answer_take-answer.result.1 c.answer_take-answer.new.room)
-    c.push_take.ensures.items (ap (λ l. arrived_of l c.answer_take-answer.result.0)
-    (sym c.deref-3.ensures.value) ∙ c.answer_take-answer.ensures.told) in
-    take_within w taking _ c.answer_take-answer.new.failures
-    _ some more c.answer_take-answer.ensures.failures
-    (omega (arith, c.push_take.ensures.len, c.push_take.ensures.capacity))
-    ∙ ap (λ w. after_take w taking) c.self.view_is
+pub returns-clause-gives_nothing : goal.returns-clause-gives_nothing
+returns-clause-gives_nothing c =
+    let w = c.args.self.now in
+    let taking = taking_of c.args.port nowhere c.receive-found.result.0 c.receive-found.new.room in
+    subst (λ (x : MemoryWireState). TellsMore (told w.tells w.gives) (told x.tells x.gives) [])
+    (sym c.receive-found.ensures.after) (take_gives_none w taking (w.take_room == 0) refl)

@@ -1,7 +1,7 @@
 use Rattle.std.proofs.Common.{◌++◌, length, sym, ◌∙◌, ap}
 use Rattle.trdp_memory.specs.Rows.{gives_of, bytes_in}
 use Rattle.trdp_memory.proofs.GiveRowLemmas.{gives_append, bytes_append}
-use Rattle.trdp_memory.proofs.memory_wire.push_give.Goals as goal
+use Rattle.trdp_memory.proofs.within_rooms.push_give.Goals as goal
 
 pub returns-clause-gives : goal.returns-clause-gives
 returns-clause-gives c =

@@ -4,7 +4,7 @@ use Rattle.trdp_memory.specs.contracts.memory_wire.MemoryWire.{the_view}
 use Rattle.trdp_memory.specs.MemoryWires.{ArrivalModel, with_arrival}
 use Rattle.trdp_memory.proofs.MemoryWireLemmas.{arrival_laid}
 use Rattle.trdp_memory.proofs.TakeRowLemmas.{takings_more, within_more}
-use Rattle.trdp_memory.proofs.memory_wire.MemoryWire.arrive.Goals as goal
+use Rattle.trdp_memory.proofs.memory_wire.MemoryWire.lay_down.Goals as goal
 
 pub invariant_of-self-2 : goal.invariant_of-self-2
 invariant_of-self-2 c = (
@@ -21,6 +21,7 @@ returns-clause-laid_down c =
       at_take = c.args.take;
       from = c.args.from;
       bytes = c.args.bytes.now;
+      ends = c.args.ends;
     } in
     let laid = c.self.inside.arrivals.items in
     let more : c.push.new.self.items ≡ laid ++ arrival ∷ [] = c.in_ok-push.ensures.items
