@@ -4,7 +4,8 @@
 //! - calls for which memory is refused;
 //! - an exchange of running nodes, with the steps that their network rejects;
 //! - turns over a wire and a clock in memory, where receiving, sending or memory fails;
-//! - wires over sockets in memory;
+//! - wires over sockets in memory, and over a folder in memory;
+//! - the end of an application, at a path over connections in memory and over a wire in memory;
 //! - a wire and a clock of one's own, with no more than the calls that each has to have.
 //!
 //! What a script can show is in the folder `rows` of the repository, with its output. Ports,
@@ -14,9 +15,15 @@
 #![tactic(auto)]
 
 #[cfg(test)]
+mod connections;
+#[cfg(test)]
 mod counts;
 #[cfg(test)]
 mod daemon;
+#[cfg(test)]
+mod ends;
+#[cfg(test)]
+mod folder;
 #[cfg(test)]
 mod items;
 #[cfg(test)]
