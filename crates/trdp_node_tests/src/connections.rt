@@ -113,7 +113,9 @@ fn next_line<'a>(
     path: &mut ControlPath<MemoryConnections>,
     room: &'a mut [u8],
 ) -> Option<Line<'a>> {
-    let (number, len) = path.take(room).ok()??;
+    let Ok(Some((number, len))) = path.take(room) else {
+        return None;
+    };
     let _ = path.give(number, b"ok\n");
     let (text, _) = room.split_at(len);
     Some(Line { number, text })
