@@ -1,7 +1,7 @@
 -- Why a connection at a path is closed, and what becomes of the others.
 -- For `Path`.
 -- By: what is known of the one that has the seat, and of the one that waits.
-use Rattle.std.proofs.Common.{◌≡◌, ℕ, ◌+◌, ◌<◌, ◌||◌, ◌&&◌, ◌++◌, ◌⊎◌, not, List, [], ◌∷◌}
+use Rattle.std.proofs.Common.{◌≡◌, ℕ, ◌<◌, ◌||◌, ◌&&◌, ◌++◌, ◌⊎◌, not, List, [], ◌∷◌}
 use Rattle.std.proofs.Common.{true, false, Option, Some, None, set, refl, ap}
 use Rattle.std.proofs.Common.{sym, subst, ◌∙◌, inl, inr}
 use Rattle.std.specs.Prelude.{is_some}
@@ -15,7 +15,7 @@ use Rattle.trdp_lines.specs.Connections.{Between, ConnectionCall, Closes, Writes
 use Rattle.trdp_lines.specs.Conversations.{ConversationState, conversation_of, is_done}
 use Rattle.trdp_lines.specs.Fates.{GoesOn, HasGone, IsBesideLiving}
 use Rattle.trdp_lines.specs.Lines.{IsUnended, has_line}
-use Rattle.trdp_lines.specs.Paths.{IsWhatWasRead, IsTrueOf, speaks}
+use Rattle.trdp_lines.specs.Paths.{IsWhatWasRead, IsTrueOf}
 use Rattle.trdp_lines.specs.Seatings.{IsPath}
 use Rattle.trdp_lines.specs.Seats.{free_seat, has_seat, is_of, seat_at, with_waiting}
 use Rattle.trdp_lines.specs.Turns.{IsRefused}

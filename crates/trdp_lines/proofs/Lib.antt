@@ -26,6 +26,7 @@ pub mod FateLemmas
 pub mod StepLemmas
 pub mod HearingLemmas
 pub mod AskingLemmas
+pub mod DecidingLemmas
 pub mod ComingLemmas
 pub mod GiveLemmas
 pub mod TakeLemmas

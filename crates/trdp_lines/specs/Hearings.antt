@@ -58,6 +58,13 @@ pub record IsQuiet (calls calls_then : Option (List ConnectionCall)) (heard : Bo
   pub unfound : found ≡ false
   pub nothing : has_brought more ≡ false
 
+-- one that waits is decided: by these calls nothing came, and none waits then; or something came
+pub record Decides (calls calls_then : Option (List ConnectionCall)) (waiting_then : Option ℕ)
+    : Type 0 where
+  pub more : List ConnectionCall
+  pub told : TellsMore calls calls_then more
+  pub decided : has_brought more ≡ false → waiting_then ≡ None
+
 -- one waits for the seat of an application; none waits at the operator's path
 abbrev pub waits_at : Rule → Option ℕ → Bool
 waits_at Application waiting = is_some waiting

@@ -65,7 +65,7 @@ impl<C: Connections, P: Policy> Path<C, P> {
     ghost use Rattle.trdp_lines.specs.Closings.{AreThere};
     ghost use Rattle.trdp_lines.specs.Comings.{AcceptsAtMostOne};
     ghost use Rattle.trdp_lines.specs.Fates.{KeepTaken};
-    ghost use Rattle.trdp_lines.specs.Hearings.{Hears, IsQuiet, has_found, waits_at};
+    ghost use Rattle.trdp_lines.specs.Hearings.{Decides, Hears, IsQuiet, has_found, waits_at};
     ghost use Rattle.trdp_lines.specs.Said.{reset_line};
     ghost use Rattle.trdp_lines.specs.Seatings.{IsPath};
     ghost use Rattle.trdp_lines.specs.Seats.{HandsInTexts, NothingLeft, StaysLeft, is_seated};
@@ -151,6 +151,8 @@ impl<C: Connections, P: Policy> Path<C, P> {
         ensures tried { TriesAll (seats_at P.rule)
             (C.calls self.old.connections) (C.calls self.new.connections) self.old.seats }
         ensures asked { IfNothing result (AsksAll P.rule C.calls self.old self.new) }
+        ensures decided { IfNothing result (λ _. Decides
+            (C.calls self.old.connections) (C.calls self.new.connections) self.new.waiting) }
         ensures heard { Hears (C.calls self.old.connections) (C.calls self.new.connections)
             (has_found result || self.old.heard || waits_at P.rule self.old.waiting)
             self.new.heard }

@@ -15,6 +15,7 @@ impl<C: Connections, P: Policy> Path<C, P> {
     ghost use Rattle.trdp_base.specs.Reported.{TellsMore};
     ghost use Rattle.trdp_lines.specs.Connections.{Closes};
     ghost use Rattle.trdp_lines.specs.Conversations.{conversation_of, is_done};
+    ghost use Rattle.trdp_lines.specs.Hearings.{Decides};
     ghost use Rattle.trdp_lines.specs.Lines.{IsUnended};
     ghost use Rattle.trdp_lines.specs.Paths.{IsReadyIf};
     ghost use Rattle.trdp_lines.specs.Seats.{has_seat, seat_at, seats_at};
@@ -61,6 +62,8 @@ impl<C: Connections, P: Policy> Path<C, P> {
         ensures asked { IfNone result (AsksPlaces 0 (seats_at P.rule)
             (C.calls self.old.connections) (C.calls self.new.connections)
             self.old.seats self.new.seats self.old.waiting) }
+        ensures decided { IfNone result (Decides
+            (C.calls self.old.connections) (C.calls self.new.connections) self.new.waiting) }
         ensures kept { C.file_number self.new.connections ≡ C.file_number self.old.connections }
     {
         let first = self.next;
@@ -78,6 +81,8 @@ impl<C: Connections, P: Policy> Path<C, P> {
         ensures asked { IfNone result (AsksPlaces first «end»
             (C.calls self.old.connections) (C.calls self.new.connections)
             self.old.seats self.new.seats self.old.waiting) }
+        ensures decided { IfNone result (first < «end» → Decides
+            (C.calls self.old.connections) (C.calls self.new.connections) self.new.waiting) }
         ensures unwaited { self.old.waiting ≡ None → self.new.waiting ≡ None }
         ensures kept { C.file_number self.new.connections ≡ C.file_number self.old.connections }
     {
@@ -98,6 +103,8 @@ impl<C: Connections, P: Policy> Path<C, P> {
         ensures asked { IfNone result (AsksPlaces place (place + 1)
             (C.calls self.old.connections) (C.calls self.new.connections)
             self.old.seats self.new.seats self.old.waiting) }
+        ensures decided { IfNone result (Decides
+            (C.calls self.old.connections) (C.calls self.new.connections) self.new.waiting) }
         ensures unwaited { self.old.waiting ≡ None → self.new.waiting ≡ None }
         ensures kept { C.file_number self.new.connections ≡ C.file_number self.old.connections }
     {
@@ -171,6 +178,8 @@ impl<C: Connections, P: Policy> Path<C, P> {
         ensures goes { Goes P.rule C.calls self.old self.new [] }
         ensures asked { Listens (C.calls self.old.connections) (C.calls self.new.connections)
             self.old.waiting (seat_at self.new.seats place).number }
+        ensures decided { Decides
+            (C.calls self.old.connections) (C.calls self.new.connections) self.new.waiting }
         ensures others { KeepsOthers place self.old.seats self.new.seats }
         ensures unwaited { self.old.waiting ≡ None → self.new.waiting ≡ None }
         ensures kept { C.file_number self.new.connections ≡ C.file_number self.old.connections }
@@ -200,7 +209,7 @@ impl<C: Connections, P: Policy> Path<C, P> {
             self.old.waiting (seat_at self.old.seats place).number
             (seat_at self.new.seats place).number }
         ensures others { KeepsOthers place self.old.seats self.new.seats }
-        ensures unwaited { self.old.waiting ≡ None → self.new.waiting ≡ None }
+        ensures decided { self.new.waiting ≡ None }
         ensures kept { C.file_number self.new.connections ≡ C.file_number self.old.connections }
     {
         let Some(next) = self.waiting else {

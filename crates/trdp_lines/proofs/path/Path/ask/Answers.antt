@@ -1,5 +1,6 @@
 use Rattle.std.proofs.Common.{◌≡◌, [], length, arith}
-use Rattle.trdp_lines.proofs.AskingLemmas.{asks_one, if_none_then}
+use Rattle.trdp_lines.proofs.AskingLemmas.{asks_one, if_none, if_none_then}
+use Rattle.trdp_lines.proofs.DecidingLemmas.{decides_before, decides_next}
 use Rattle.trdp_lines.proofs.StepLemmas.{finds_next, goes_next}
 use Rattle.trdp_lines.proofs.path.Path.ask.Goals as goal
 
@@ -18,3 +19,11 @@ returns-clause-asked g c = rw (← c.self.view_is) (if_none_then c.next_text-2.r
     c.next_text.ensures.follows c.next_text.ensures.unwaited c.listen.ensures.unwaited
     c.listen.ensures.asked c.next_text-2.ensures.follows ready c.next_text.ensures.others
     c.listen.ensures.others c.next_text-2.ensures.others) c.next_text-2.ensures.ready)
+
+pub returns-clause-decided : goal.returns-clause-decided
+returns-clause-decided g c =
+    let first = c.next_text.ensures.follows in
+    let last = c.next_text-2.ensures.follows in
+    rw (← c.self.view_is) (if_none c.next_text-2.result (decides_before _ _ _ last.more _ _
+    (decides_next _ _ _ first.more _ first.told c.listen.ensures.decided) last.told
+    c.next_text-2.ensures.unwaited))

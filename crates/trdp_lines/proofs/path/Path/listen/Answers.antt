@@ -1,6 +1,7 @@
 use Rattle.std.proofs.Common.{◌∙◌, [], Some, true, ap, sym}
 use Rattle.trdp_lines.specs.Conversations.{ConversationState}
 use Rattle.trdp_lines.proofs.AskingLemmas.{listens_none, listens_read, listens_then}
+use Rattle.trdp_lines.proofs.DecidingLemmas.{decides_free, decides_heard, decides_next, decides_none}
 use Rattle.trdp_lines.proofs.HearingLemmas.{new_heard, nothing_of, still_heard}
 use Rattle.trdp_lines.proofs.KeptLemmas.{at_read, path_turn}
 use Rattle.trdp_lines.proofs.ReadLemmas.{seat_read, seat_set, set_read}
@@ -148,3 +149,27 @@ returns-in_default-clause-asked g c =
 pub decide-requires-clause-asked : goal.decide-requires-clause-asked
 decide-requires-clause-asked g c = c.listen-came.ensures.asked (nothing_of c.listen-came.result
     (sym c.has_come.ensures ∙ c.if-has_come.false))
+
+pub returns-else-has_come-clause-decided : goal.returns-else-has_come-clause-decided
+returns-else-has_come-clause-decided g c =
+    let goes = c.decide.ensures.goes in
+    let heard = c.listen-came.ensures.heard in
+    rw (← c.self.view_is) (decides_next _ _ _ heard.more _ heard.told
+    (decides_none _ _ goes.more _ goes.told c.decide.ensures.decided))
+
+pub returns-then-has_come-clause-decided : goal.returns-then-has_come-clause-decided
+returns-then-has_come-clause-decided g c =
+    let some = sym c.has_come.ensures ∙ c.if-has_come.true in
+    rw (← c.self.view_is) (decides_heard _ _ _ (rw some at c.listen-came.ensures.heard))
+
+pub returns-in_default-clause-decided : goal.returns-in_default-clause-decided
+returns-in_default-clause-decided g c =
+    let inside = c.self.inside in
+    let seat = c.index_mut-seat.result.now in
+    let at = at_read g.P.Policy.rule inside.seats.items c.args.place seat _
+    c.self.invariant.path.size c.requires.within c.index_mut-seat.ensures.value
+    (sym c.number.ensures) in
+    let free = ap (λ (s : ConversationState). s.number)
+    (seat_read inside.seats.items c.args.place seat at.within at.here) ∙ at.number in
+    rw (← c.self.view_is) (decides_free g.P.Policy.rule _ inside.seats.items inside.waiting
+    inside.came c.args.place c.self.invariant.path c.requires.within (free ∙ c.in_default.is))

@@ -1,5 +1,6 @@
 use Rattle.std.proofs.Common.{◌≡◌, ◌∙◌, [], Some, inl, inr, arith, length, refl}
 use Rattle.trdp_lines.proofs.AskingLemmas.{asks_more, asks_none, asks_within}
+use Rattle.trdp_lines.proofs.DecidingLemmas.{decides_next}
 use Rattle.trdp_lines.proofs.StepLemmas.{finds_next, goes_next, goes_none}
 use Rattle.trdp_lines.proofs.path.Path.next_from.Goals as goal
 
@@ -8,6 +9,7 @@ loop-place-init g c = record {
   goes = goes_none g.P.Policy.rule g.C.Connections.calls _;
   asked = asks_none c.args.first _ _ _;
   unwaited = λ none. none;
+  decided = λ some. absurd (omega (arith, some));
   kept = refl;
   order = inl (omega arith);
 }
@@ -23,6 +25,7 @@ loop-place-preserved g c =
           c.loop-place.self.seats c.ask.new.self.seats c.args.self.now.waiting
           c.loop-place.self.waiting (omega arith) before.unwaited before.asked asked.asked;
       unwaited = λ none. asked.unwaited (before.unwaited none);
+      decided = λ some. decides_next _ _ _ before.goes.more _ before.goes.told asked.decided;
       kept = asked.kept ∙ before.kept;
       order = inr (omega arith);
     }
@@ -41,3 +44,6 @@ returns-clause-asked g c = asks_within c.args.first c.loop-place.place c.args.en
       | inl empty ↦ inr empty
       | inr some ↦ inl (omega (arith, some))
     ]) c.loop-place.invariant.asked
+
+pub returns-clause-decided : goal.returns-clause-decided
+returns-clause-decided g c = λ some. c.loop-place.invariant.decided (omega (arith, some))

@@ -1,6 +1,7 @@
 use Rattle.std.proofs.Common.{◌≡◌, length, arith}
 use Rattle.trdp_lines.specs.Seats.{seats_at}
 use Rattle.trdp_lines.proofs.AskingLemmas.{asks_round, if_none_then}
+use Rattle.trdp_lines.proofs.DecidingLemmas.{decides_round}
 use Rattle.trdp_lines.proofs.StepLemmas.{finds_next}
 use Rattle.trdp_lines.proofs.path.Path.next_of_all.Goals as goal
 
@@ -17,3 +18,11 @@ returns-clause-asked g c = if_none_then c.next_from-2.result (asks_round c.self.
     c.next_from.new.self.waiting c.self.invariant.first c.next_from.ensures.unwaited
     (rw (c.seats.ensures, c.rule.ensures) at c.in_default.ensures.asked))
     c.next_from-2.ensures.asked
+
+pub returns-clause-decided : goal.returns-clause-decided
+returns-clause-decided g c = decides_round g.P.Policy.rule c.next_from-2.result c.self.inside.next
+    _ _ _ _ c.next_from.new.self.seats c.next_from-2.new.self.seats _
+    c.next_from.new.self.waiting c.next_from-2.new.self.waiting
+    (rw (c.seats.ensures, c.rule.ensures) at c.in_default.ensures.asked)
+    (rw (c.seats.ensures, c.rule.ensures) at c.in_default.ensures.decided)
+    c.next_from-2.ensures.asked c.next_from-2.ensures.decided c.next_from-2.ensures.unwaited

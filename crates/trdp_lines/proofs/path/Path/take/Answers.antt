@@ -3,6 +3,7 @@ use Rattle.trdp_lines.specs.Seats.{PathState, is_seated}
 use Rattle.trdp_lines.proofs.AskingLemmas.{asks_all, reads_all, tries_all}
 use Rattle.trdp_lines.proofs.ClosingLemmas.{there_of}
 use Rattle.trdp_lines.proofs.ComingLemmas.{comes_then, served_step}
+use Rattle.trdp_lines.proofs.DecidingLemmas.{decides_next}
 use Rattle.trdp_lines.proofs.HearingLemmas.{hears_found, hears_step, hears_unfound, quiet_take}
 use Rattle.trdp_lines.proofs.HearingLemmas.{unheard_before}
 use Rattle.trdp_lines.proofs.TakeLemmas.{none_found, none_of, text_found, text_heard}
@@ -255,3 +256,17 @@ returns-in-Err-clause-read g c = λ unheard.
     rw (← c.self.view_is) (reads_all rule calls _ c.admit-admitted.new.self c.flush.new.self
     c.next_of_all.new.self _ c.admit-admitted.ensures.heard c.flush.ensures.goes unwaited
     c.in-None.ensures.asked c.sound-in-None.ensures)
+
+pub returns-in-Ok-clause-decided : goal.returns-in-Ok-clause-decided
+returns-in-Ok-clause-decided g c =
+    let asked = c.admit-admitted.ensures.asked in
+    let goes = c.flush.ensures.goes in
+    rw (← c.self.view_is) (decides_next _ _ _ asked.more _ asked.told
+    (decides_next _ _ _ goes.more _ goes.told c.in-None.ensures.decided))
+
+pub returns-in-Err-clause-decided : goal.returns-in-Err-clause-decided
+returns-in-Err-clause-decided g c =
+    let asked = c.admit-admitted.ensures.asked in
+    let goes = c.flush.ensures.goes in
+    rw (← c.self.view_is) (decides_next _ _ _ asked.more _ asked.told
+    (decides_next _ _ _ goes.more _ goes.told c.in-None.ensures.decided))
