@@ -170,7 +170,7 @@ waits_before None waiting_then kept some = ap is_some (sym (kept refl)) ∙ some
 waits_before (Some n) waiting_then kept some = refl
 
 -- one that had its turn by some calls had it by these and more
-had_more : (n : ℕ) (waiting : Option ℕ) (first second : List ConnectionCall)
+pub had_more : (n : ℕ) (waiting : Option ℕ) (first second : List ConnectionCall)
     → HadTurn waiting n first → HadTurn waiting n (first ++ second)
 had_more n waiting first second turn = elim turn [
   | inl read ↦ inl (among_first (reads_from n) first second read)
@@ -185,7 +185,7 @@ had_more n waiting first second turn = elim turn [
 ]
 
 -- or by more and these, where one waits only if one waited
-had_behind : (n : ℕ) (waiting waiting_then : Option ℕ) (first second : List ConnectionCall)
+pub had_behind : (n : ℕ) (waiting waiting_then : Option ℕ) (first second : List ConnectionCall)
     → (waiting ≡ None → waiting_then ≡ None) → HadTurn waiting_then n second
     → HadTurn waiting n (first ++ second)
 had_behind n waiting waiting_then first second kept turn = elim turn [
@@ -456,7 +456,7 @@ going_at (Some calls) seats place n came within number known ready =
     (subst (λ (whose : Option ℕ). IsReadyIf whose (seat_at seats place)) number ready)
 
 -- one had its turn as the rule has it: an operator was read from
-turn_of : (rule : Rule) (n : ℕ) (waiting : Option ℕ) (more : List ConnectionCall)
+pub turn_of : (rule : Rule) (n : ℕ) (waiting : Option ℕ) (more : List ConnectionCall)
     → (rule ≡ Operators → waiting ≡ None) → HadTurn waiting n more → IsTurnOf rule n more
 turn_of Application n waiting more alone turn = elim turn [
   | inl read ↦ inl read

@@ -27,6 +27,7 @@ pub mod StepLemmas
 pub mod HearingLemmas
 pub mod AskingLemmas
 pub mod DecidingLemmas
+pub mod RoundLemmas
 pub mod ComingLemmas
 pub mod GiveLemmas
 pub mod TakeLemmas

@@ -16,3 +16,4 @@ pub mod Hearings
 pub mod Seatings
 pub mod Turns
 pub mod Steps
+pub mod Orders

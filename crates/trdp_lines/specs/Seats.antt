@@ -21,13 +21,15 @@ counts_ends Application = true
 counts_ends Operators = false
 
 -- The connections of a path; its seats, each of a connection or free; the one that waits for a seat,
--- unread until it is known whether the one that has it lives; and how many came. `heard` is whether
--- something was heard at the takes since that was asked the last time.
+-- unread until it is known whether the one that has it lives; and how many came. `next` is how many
+-- seats come before the first that the next take asks, and `heard` whether something was heard at
+-- the takes since that was asked the last time.
 pub record PathState (C : Type 0) : Type 0 where
   pub connections : C
   pub seats : List ConversationState
   pub waiting : Option ℕ
   pub came : ℕ
+  pub next : ℕ
   pub heard : Bool
 
 -- a seat of no connection
@@ -41,6 +43,7 @@ new_path rule connections = record {
   seats = replicate (seats_at rule) free_seat;
   waiting = None;
   came = 0;
+  next = 0;
   heard = false;
 }
 

@@ -50,6 +50,7 @@ impl<C: Connections, P: Policy> Model for Path<C, P> {
       seats = p.seats.items;
       waiting = p.waiting;
       came = p.came;
+      next = p.next;
       heard = p.heard;
     } };
 
@@ -66,6 +67,7 @@ impl<C: Connections, P: Policy> Path<C, P> {
     ghost use Rattle.trdp_lines.specs.Comings.{AcceptsAtMostOne};
     ghost use Rattle.trdp_lines.specs.Fates.{KeepTaken};
     ghost use Rattle.trdp_lines.specs.Hearings.{Decides, Hears, IsQuiet, has_found, waits_at};
+    ghost use Rattle.trdp_lines.specs.Orders.{IsInTurn};
     ghost use Rattle.trdp_lines.specs.Said.{reset_line};
     ghost use Rattle.trdp_lines.specs.Seatings.{IsPath};
     ghost use Rattle.trdp_lines.specs.Seats.{HandsInTexts, NothingLeft, StaysLeft, is_seated};
@@ -130,7 +132,8 @@ impl<C: Connections, P: Policy> Path<C, P> {
     /// result is the number of the connection and how many bytes the line has there. None says that
     /// all that came is handed in. It accepts one connection at most, reads once at most from each
     /// that has a seat, and writes to each what waits for it. It begins after the one that was asked
-    /// last. Where nothing is heard at it, neither a connection nor anything of one came.
+    /// last. Where nothing is heard at it, neither a connection nor anything of one came. Where no
+    /// call of it brings anything and it finds nothing, none waits after it.
     ///
     /// # Errors
     /// [`AcceptFault`] where nothing is there and the system refuses the next connection.
@@ -143,6 +146,8 @@ impl<C: Connections, P: Policy> Path<C, P> {
         ensures gone { IfOk result (λ found. IfSome found (λ f. has_seat f.0 self.new.seats ≡ false
             → take f.1 room.new ≡ take (length room.old) reset_line)) }
         ensures numbers { IfOk result (λ found. IfSome found (λ f. f.0 ≤ self.new.came)) }
+        ensures turn { IfOk result (λ found. IfSome found (λ f.
+            IsInTurn P.rule C.calls self.old self.new f.0)) }
         ensures came { AcceptsAtMostOne
             (C.calls self.old.connections) (C.calls self.new.connections)
             self.old.came self.new.came }
@@ -194,6 +199,7 @@ impl<C: Connections, P: Policy> Path<C, P> {
             (has_seat number self.old.seats) number text.now self.old.seats self.new.seats result }
         ensures waiting { self.new.waiting ≡ self.old.waiting }
         ensures came { self.new.came ≡ self.old.came }
+        ensures next { self.new.next ≡ self.old.next }
         ensures heard { self.new.heard ≡ self.old.heard }
         ensures left { StaysLeft P.rule self.old.seats self.new.seats }
         ensures hands_in { HandsInTexts P.rule
@@ -242,6 +248,7 @@ impl<C: Connections, P: Policy> Path<C, P> {
         ensures waiting { self.new.heard ≡ false → self.new.waiting ≡ self.old.waiting }
         ensures waits { waits_at P.rule self.old.waiting ≡ is_some self.old.waiting }
         ensures alone { P.rule ≡ Operators → self.new.waiting ≡ None }
+        ensures next { self.new.next ≡ self.old.next }
         ensures kept { C.file_number self.new.connections ≡ C.file_number self.old.connections }
     {
         if self.waiting.is_some() || self.came >= LAST_NUMBER {

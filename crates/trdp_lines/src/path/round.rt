@@ -17,6 +17,7 @@ impl<C: Connections, P: Policy> Path<C, P> {
     ghost use Rattle.trdp_lines.specs.Conversations.{conversation_of, is_done};
     ghost use Rattle.trdp_lines.specs.Hearings.{Decides};
     ghost use Rattle.trdp_lines.specs.Lines.{IsUnended};
+    ghost use Rattle.trdp_lines.specs.Orders.{FindsAt, FindsInRound, IsAtIf};
     ghost use Rattle.trdp_lines.specs.Paths.{IsReadyIf};
     ghost use Rattle.trdp_lines.specs.Seats.{has_seat, seat_at, seats_at};
     ghost use Rattle.trdp_lines.specs.Steps.{FindsIf, Goes, end_at};
@@ -30,6 +31,7 @@ impl<C: Connections, P: Policy> Path<C, P> {
         ensures unfailed { NoneFails
             (C.calls self.old.connections) (C.calls self.new.connections) }
         ensures waiting { self.new.waiting ≡ self.old.waiting }
+        ensures next { self.new.next ≡ self.old.next }
         ensures kept { C.file_number self.new.connections ≡ C.file_number self.old.connections }
     {
         for place in 0..P::rule().seats() {
@@ -47,6 +49,7 @@ impl<C: Connections, P: Policy> Path<C, P> {
             (C.calls self.old.connections) (C.calls self.new.connections) }
         ensures others { KeepsOthers place self.old.seats self.new.seats }
         ensures waiting { self.new.waiting ≡ self.old.waiting }
+        ensures next { self.new.next ≡ self.old.next }
         ensures kept { C.file_number self.new.connections ≡ C.file_number self.old.connections }
     {
         let seat = &mut self.seats[place];
@@ -64,6 +67,9 @@ impl<C: Connections, P: Policy> Path<C, P> {
             self.old.seats self.new.seats self.old.waiting) }
         ensures decided { IfNone result (Decides
             (C.calls self.old.connections) (C.calls self.new.connections) self.new.waiting) }
+        ensures found { IfSome result (λ found. FindsInRound self.old.next (seats_at P.rule)
+            (C.calls self.old.connections) (C.calls self.new.connections)
+            self.new.seats self.old.waiting found.0 self.new.next) }
         ensures kept { C.file_number self.new.connections ≡ C.file_number self.old.connections }
     {
         let first = self.next;
@@ -84,6 +90,9 @@ impl<C: Connections, P: Policy> Path<C, P> {
         ensures decided { IfNone result (first < «end» → Decides
             (C.calls self.old.connections) (C.calls self.new.connections) self.new.waiting) }
         ensures unwaited { self.old.waiting ≡ None → self.new.waiting ≡ None }
+        ensures found { IfSome result (λ found. FindsAt first «end»
+            (C.calls self.old.connections) (C.calls self.new.connections)
+            self.old.seats self.new.seats self.old.waiting found.0 self.new.next) }
         ensures kept { C.file_number self.new.connections ≡ C.file_number self.old.connections }
     {
         for place in first..end {
@@ -106,6 +115,9 @@ impl<C: Connections, P: Policy> Path<C, P> {
         ensures decided { IfNone result (Decides
             (C.calls self.old.connections) (C.calls self.new.connections) self.new.waiting) }
         ensures unwaited { self.old.waiting ≡ None → self.new.waiting ≡ None }
+        ensures next { self.new.next ≡ place + 1 }
+        ensures others { KeepsOthers place self.old.seats self.new.seats }
+        ensures whose { IfSome result (λ found. IsAtIf found.0 place self.new.seats) }
         ensures kept { C.file_number self.new.connections ≡ C.file_number self.old.connections }
     {
         self.next = place + 1;
@@ -129,6 +141,8 @@ impl<C: Connections, P: Policy> Path<C, P> {
             (seat_at self.new.seats place).number }
         ensures others { KeepsOthers place self.old.seats self.new.seats }
         ensures unwaited { self.old.waiting ≡ None → self.new.waiting ≡ None }
+        ensures next { self.new.next ≡ self.old.next }
+        ensures whose { IfSome result (λ found. IsAtIf found.0 place self.new.seats) }
         ensures kept { C.file_number self.new.connections ≡ C.file_number self.old.connections }
     {
         let seat = &mut self.seats[place];
@@ -162,6 +176,7 @@ impl<C: Connections, P: Policy> Path<C, P> {
         ensures others { KeepsOthers place self.old.seats self.new.seats }
         ensures waiting { self.new.waiting ≡ None }
         ensures gone { has_seat number self.new.seats ≡ false }
+        ensures next { self.new.next ≡ self.old.next }
         ensures kept { C.file_number self.new.connections ≡ C.file_number self.old.connections }
     {
         self.connections.close(number);
@@ -182,6 +197,7 @@ impl<C: Connections, P: Policy> Path<C, P> {
             (C.calls self.old.connections) (C.calls self.new.connections) self.new.waiting }
         ensures others { KeepsOthers place self.old.seats self.new.seats }
         ensures unwaited { self.old.waiting ≡ None → self.new.waiting ≡ None }
+        ensures next { self.new.next ≡ self.old.next }
         ensures kept { C.file_number self.new.connections ≡ C.file_number self.old.connections }
     {
         let seat = &mut self.seats[place];
@@ -210,6 +226,7 @@ impl<C: Connections, P: Policy> Path<C, P> {
             (seat_at self.new.seats place).number }
         ensures others { KeepsOthers place self.old.seats self.new.seats }
         ensures decided { self.new.waiting ≡ None }
+        ensures next { self.new.next ≡ self.old.next }
         ensures kept { C.file_number self.new.connections ≡ C.file_number self.old.connections }
     {
         let Some(next) = self.waiting else {

@@ -12,6 +12,7 @@ loop-place-init g c = record {
   unfailed = none_fails _;
   rest = λ k more. refl;
   waiting = refl;
+  next = refl;
   kept = refl;
 }
 
@@ -28,6 +29,7 @@ loop-place-preserved g c =
       rest = λ k more. flushed.others k (λ same. omega (arith, more, same))
           ∙ before.rest k (omega (arith, more));
       waiting = flushed.waiting ∙ before.waiting;
+      next = flushed.next ∙ before.next;
       kept = flushed.kept ∙ before.kept;
     }
 

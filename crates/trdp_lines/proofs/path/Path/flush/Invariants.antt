@@ -15,6 +15,7 @@ invariant-loop-place g l = record {
       (g.C.Connections.calls l.self.connections);
   rest : (k : ℕ) → l.place ≤ k → seat_at l.self.seats k ≡ seat_at l.initial.self.seats k;
   waiting : l.self.waiting ≡ l.initial.self.waiting;
+  next : l.self.next ≡ l.initial.self.next;
   kept : g.C.Connections.file_number l.self.connections
       ≡ g.C.Connections.file_number l.initial.self.connections;
 }

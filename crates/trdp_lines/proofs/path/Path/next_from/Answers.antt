@@ -1,6 +1,7 @@
-use Rattle.std.proofs.Common.{◌≡◌, ◌∙◌, [], Some, inl, inr, arith, length, refl}
+use Rattle.std.proofs.Common.{◌≡◌, ◌≢◌, ◌∙◌, [], Some, inl, inr, arith, length, refl}
 use Rattle.trdp_lines.proofs.AskingLemmas.{asks_more, asks_none, asks_within}
 use Rattle.trdp_lines.proofs.DecidingLemmas.{decides_next}
+use Rattle.trdp_lines.proofs.RoundLemmas.{passes_asked}
 use Rattle.trdp_lines.proofs.StepLemmas.{finds_next, goes_next, goes_none}
 use Rattle.trdp_lines.proofs.path.Path.next_from.Goals as goal
 
@@ -47,3 +48,27 @@ returns-clause-asked g c = asks_within c.args.first c.loop-place.place c.args.en
 
 pub returns-clause-decided : goal.returns-clause-decided
 returns-clause-decided g c = λ some. c.loop-place.invariant.decided (omega (arith, some))
+
+pub returns-in-Some-clause-found : goal.returns-in-Some-clause-found
+returns-in-Some-clause-found g c =
+    let before = c.loop-place.invariant in
+    let goes = c.in-Some.ensures.finds.goes in
+    record {
+      place = c.loop-place.place;
+      low = omega arith;
+      high = omega arith;
+      whose = c.in-Some.ensures.whose;
+      passes = passes_asked c.args.first c.loop-place.place _ _ _ c.args.self.now.seats
+          c.loop-place.self.seats c.ask.new.self.seats c.args.self.now.waiting goes.more before.asked
+          goes.told c.ask.ensures.others;
+      others = λ k out.
+          let other : k ≢ c.loop-place.place = λ same. elim out [
+            | inl low ↦ absurd (omega (arith, low, same))
+            | inr high ↦ absurd (omega (arith, high, same))
+          ] in
+          c.ask.ensures.others k other ∙ before.asked.others k (elim out [
+            | inl low ↦ inl low
+            | inr high ↦ inr (omega (arith, high))
+          ]);
+      next_is = c.ask.ensures.next;
+    }

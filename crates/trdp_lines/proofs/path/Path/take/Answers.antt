@@ -1,11 +1,13 @@
-use Rattle.std.proofs.Common.{◌∙◌, [], false, true, length}
+use Rattle.std.proofs.Common.{◌∙◌, ◌++◌, [], false, true, length}
 use Rattle.trdp_lines.specs.Seats.{PathState, is_seated}
 use Rattle.trdp_lines.proofs.AskingLemmas.{asks_all, reads_all, tries_all}
+use Rattle.trdp_lines.proofs.BetweenLemmas.{told_next}
 use Rattle.trdp_lines.proofs.ClosingLemmas.{there_of}
 use Rattle.trdp_lines.proofs.ComingLemmas.{comes_then, served_step}
 use Rattle.trdp_lines.proofs.DecidingLemmas.{decides_next}
 use Rattle.trdp_lines.proofs.HearingLemmas.{hears_found, hears_step, hears_unfound, quiet_take}
 use Rattle.trdp_lines.proofs.HearingLemmas.{unheard_before}
+use Rattle.trdp_lines.proofs.RoundLemmas.{in_turn}
 use Rattle.trdp_lines.proofs.TakeLemmas.{none_found, none_of, text_found, text_heard}
 use Rattle.trdp_lines.proofs.path.Path.take.Goals as goal
 
@@ -17,6 +19,7 @@ returns-in-Some-clause-next g c =
       seats = inside.seats.items;
       waiting = inside.waiting;
       came = inside.came;
+      next = inside.next;
       heard = inside.heard;
     } in
     let next = text_found g.P.Policy.rule g.C.Connections.calls path c.admit-admitted.new.self
@@ -43,6 +46,7 @@ returns-in-Some-clause-served g c =
       seats = inside.seats.items;
       waiting = inside.waiting;
       came = inside.came;
+      next = inside.next;
       heard = inside.heard;
     } in
     let rule = g.P.Policy.rule in
@@ -83,6 +87,7 @@ returns-in-Ok-clause-next g c =
       seats = inside.seats.items;
       waiting = inside.waiting;
       came = inside.came;
+      next = inside.next;
       heard = inside.heard;
     } in
     rw (← c.self.view_is) (none_found g.P.Policy.rule g.C.Connections.calls path
@@ -99,6 +104,7 @@ returns-in-Err-clause-refused g c =
       seats = inside.seats.items;
       waiting = inside.waiting;
       came = inside.came;
+      next = inside.next;
       heard = inside.heard;
     } in
     rw (← c.self.view_is) (none_found g.P.Policy.rule g.C.Connections.calls path
@@ -131,6 +137,7 @@ returns-in-Ok-clause-served g c =
       seats = inside.seats.items;
       waiting = inside.waiting;
       came = inside.came;
+      next = inside.next;
       heard = inside.heard;
     } in
     let rule = g.P.Policy.rule in
@@ -147,6 +154,7 @@ returns-in-Err-clause-served g c =
       seats = inside.seats.items;
       waiting = inside.waiting;
       came = inside.came;
+      next = inside.next;
       heard = inside.heard;
     } in
     let rule = g.P.Policy.rule in
@@ -270,3 +278,24 @@ returns-in-Err-clause-decided g c =
     let goes = c.flush.ensures.goes in
     rw (← c.self.view_is) (decides_next _ _ _ asked.more _ asked.told
     (decides_next _ _ _ goes.more _ goes.told c.in-None.ensures.decided))
+
+pub returns-in-Some-clause-turn : goal.returns-in-Some-clause-turn
+returns-in-Some-clause-turn g c =
+    let inside = c.self.inside in
+    let path : PathState _ = record {
+      connections = inside.connections;
+      seats = inside.seats.items;
+      waiting = inside.waiting;
+      came = inside.came;
+      next = inside.next;
+      heard = inside.heard;
+    } in
+    let asked = c.admit-admitted.ensures.asked in
+    let goes = c.flush.ensures.goes in
+    let turn = in_turn g.P.Policy.rule g.C.Connections.calls path c.flush.new.self
+    c.next_of_all.new.self (asked.more ++ goes.more) c.in-Some.found.0 true
+    (told_next _ _ _ asked.more goes.more asked.told goes.told)
+    (c.flush.ensures.next ∙ c.admit-admitted.ensures.next)
+    (λ is. c.flush.ensures.waiting ∙ c.admit-admitted.ensures.alone is)
+    c.in-Some.ensures.found in
+    rw (← c.self.view_is) (rw (← c.self-2.view_is) at turn)
