@@ -5,12 +5,14 @@ use Rattle.std.proofs.Common.{◌≡◌, zero, suc, ℕ, List, [], ◌∷◌, �
 use Rattle.std.proofs.Common.{◌+◌, ◌<◌, arith, refl, sym, ◌∙◌, ap, append_assoc, append-nil}
 use Rattle.std.proofs.Common.{subst, map, drop, length}
 use Rattle.std.proofs.lemmas.List.{map-append}
+use Rattle.std.proofs.lemmas.Option.{slice_get-get_or}
 use Rattle.std.specs.Prelude.{Result, Ok, Err, slice_get, unwrap_or}
 use Rattle.std.specs.List.{flat_map}
 use Rattle.std.specs.Result.{IsErrAnd}
 use Rattle.trdp_wire.specs.Sockets.{fault_of_result}
 use Rattle.trdp_base.specs.Reported.{TellsMore}
 use Rattle.trdp_base.proofs.ReportedLemmas.{adds_none, adds_both}
+use Rattle.trdp_wire.proofs.ControlPortLemmas.{number_next}
 use Rattle.trdp_controls.specs.Folders.{Listening, ListensAt, granted, file_unless_0, file_of}
 use Rattle.trdp_controls.specs.Folders.{refused_listening, StopsListening, ListensInTurn}
 use Rattle.trdp_controls.specs.declared.listen_fault.ListenFault.{ListenFault}
@@ -139,21 +141,12 @@ one_refused (suc n) fault a b some told = record {
 }
 
 -- the next port, and those after it
-drop_at : (numbers : List ℕ) (i number : ℕ) → i < length numbers
-    → number ≡ unwrap_or (slice_get numbers i) 0
-    → drop i numbers ≡ number ∷ drop (suc i) numbers
-drop_at [] i number below is = absurd (omega (arith, below))
-drop_at (x ∷ numbers) zero number below is = ap (λ n. n ∷ numbers) (sym is)
-drop_at (x ∷ numbers) (suc i) number below is =
-    drop_at numbers i number (omega (arith, below)) is
-
 pub next_port : (numbers : List ℕ) (i number : ℕ) (found : Option ℕ) → i < length numbers
     → found ≡ slice_get numbers i → number ≡ unwrap_or found 0
     → drop i numbers ≡ number ∷ drop (i + 1) numbers
 next_port numbers i number found below here is =
-    let next : suc i ≡ i + 1 = omega arith in
-    drop_at numbers i number below (is ∙ ap (λ o. unwrap_or o 0) here)
-    ∙ ap (λ n. number ∷ drop n numbers) next
+    let same = is ∙ ap (λ o. unwrap_or o 0) (here ∙ slice_get-get_or numbers i 0 below) in
+    number_next numbers i below ∙ ap (λ n. n ∷ drop (i + 1) numbers) (sym same)
 
 -- a process listens at all files but those of the ports to come, of which this is the next
 pub listened_next : (files numbers : List ℕ) (i number : ℕ) (a b : Option (List Listening))

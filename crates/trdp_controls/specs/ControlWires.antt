@@ -1,11 +1,12 @@
 -- What a wire does with its network and its paths.
-use Rattle.std.specs.Prelude.{◌≡◌, ℕ, ◌^◌, ◌-◌, ◌&&◌, not, nat_lt, List, [], ◌∷◌}
+use Rattle.std.specs.Prelude.{◌≡◌, ℕ, ◌^◌, ◌-◌, ◌&&◌, ◌||◌, not, nat_lt, List, [], ◌∷◌}
 use Rattle.std.specs.Prelude.{Option, Some, None, Result, Ok, Err, Bool, true, false}
 use Rattle.std.specs.Prelude.{option_map, is_err, if◌then◌else◌}
 use Rattle.std.specs.Prelude.{slice_index_or, slice_set}
 use Rattle.trdp_base.specs.declared.place.Place.{Place}
 use Rattle.trdp_lines.specs.Askings.{AsksAll, IfNothing}
 use Rattle.trdp_lines.specs.Connections.{ConnectionCall}
+use Rattle.trdp_lines.specs.Hearings.{Decides, Hears, has_found, waits_at}
 use Rattle.trdp_lines.specs.Seats.{PathState, has_seat}
 use Rattle.trdp_lines.specs.Steps.{HandsInNext, SaysToSeat}
 use Rattle.trdp_lines.specs.declared.rule.Rule.{Rule}
@@ -17,6 +18,7 @@ use Rattle.trdp_wire.specs.declared.port.Port.{Port}
 use Rattle.trdp_wire.specs.declared.port.Port.TheVariants.{Pd, Md, PdGroup, MdGroup}
 use Rattle.trdp_wire.specs.declared.port.Port.TheVariants.{Operator, Control}
 use Rattle.trdp_controls.specs.declared.control_wire.ControlWire.{ControlWire}
+use Rattle.trdp_wire.specs.News.{IsNoted}
 use Rattle.trdp_wire.specs.Ports.{are_apart}
 use Rattle.trdp_base.specs.Reported.{TellsMore}
 use Rattle.trdp_wire.specs.Told.{Give, Taking, arrived_in, give_of, stands_for_end}
@@ -55,34 +57,40 @@ control_at controls slot = slice_index_or controls slot None
 
 -- a take at a path handed in what is next there, from the place of the connection that says it;
 -- it fails where the system refused a connection and nothing is there, unless the count of failures
--- is at its last value
+-- is at its last value. Whether something was heard there
 pub record TakesText {C : Type 0} (rule : Rule) (calls_of : C → Option (List ConnectionCall))
     (path path_then : PathState C) (room : ℕ) (result : Result (Option (Place × ℕ)) WireFault)
-    (room_then : List ℕ) (failures : ℕ) : Type 0 where
+    (heard : Bool) (room_then : List ℕ) (failures : ℕ) : Type 0 where
   pub taken : Result (Option (ℕ × ℕ)) AcceptFault
   pub next : HandsInNext rule calls_of path path_then room (found_in taken) room_then
   pub asked : IfNothing taken (AsksAll rule calls_of path path_then)
+  pub decided : IfNothing taken (λ _. Decides
+      (calls_of path.connections) (calls_of path_then.connections) path_then.waiting)
+  pub hears : Hears (calls_of path.connections) (calls_of path_then.connections)
+      (has_found taken || path.heard || waits_at rule path.waiting) heard
+  pub forgotten : path_then.heard ≡ false
   pub answer : found_in result ≡ option_map found_place (found_in taken)
   pub fault : is_err result ≡ is_err taken && nat_lt failures (2 ^ 64 - 1)
 
 -- the same of a port that may have no path, where nothing ever comes
 abbrev pub TakesAtPath : {C : Type 0} → Rule → (calls_of : C → Option (List ConnectionCall))
     → (path path_then : Option (PathState C)) → (room : ℕ)
-    → Result (Option (Place × ℕ)) WireFault → (room_then : List ℕ) → (failures : ℕ) → Type 0
-TakesAtPath rule calls_of None path_then room result room_then failures =
-    (result ≡ Ok None) × (path_then ≡ None)
-TakesAtPath rule calls_of (Some path) None room result room_then failures = ⊥
-TakesAtPath rule calls_of (Some path) (Some path_then) room result room_then failures =
-    TakesText rule calls_of path path_then room result room_then failures
+    → Result (Option (Place × ℕ)) WireFault → (heard : Bool) → (room_then : List ℕ)
+    → (failures : ℕ) → Type 0
+TakesAtPath rule calls_of None path_then room result heard room_then failures =
+    (result ≡ Ok None) × (heard ≡ false) × (path_then ≡ None)
+TakesAtPath rule calls_of (Some path) None room result heard room_then failures = ⊥
+TakesAtPath rule calls_of (Some path) (Some path_then) room result heard room_then failures =
+    TakesText rule calls_of path path_then room result heard room_then failures
 
 -- a take at the control port of a slot is one at its path, and of all paths it changes this alone
 pub record TakesAtControl {C : Type 0} (calls_of : C → Option (List ConnectionCall)) (slot : ℕ)
     (controls controls_then : List (Option (PathState C))) (room : ℕ)
-    (result : Result (Option (Place × ℕ)) WireFault) (room_then : List ℕ) (failures : ℕ)
-    : Type 0 where
+    (result : Result (Option (Place × ℕ)) WireFault) (heard : Bool) (room_then : List ℕ)
+    (failures : ℕ) : Type 0 where
   pub path_then : Option (PathState C)
   pub takes : TakesAtPath Application calls_of (control_at controls slot) path_then room result
-      room_then failures
+      heard room_then failures
   pub others : controls_then ≡ slice_set controls slot path_then
 
 -- a text for a place was said to the connection of that place, if there is a path, and it has a
@@ -116,7 +124,8 @@ pub record GivesAtControl {C : Type 0} (calls_of : C → Option (List Connection
 -- a take at the operator's port is one at its path
 abbrev pub TakesAtOperator : {C : Type 0} → (calls_of : C → Option (List ConnectionCall))
     → (operator operator_then : Option (PathState C)) → (room : ℕ)
-    → Result (Option (Place × ℕ)) WireFault → (room_then : List ℕ) → (failures : ℕ) → Type 0
+    → Result (Option (Place × ℕ)) WireFault → (heard : Bool) → (room_then : List ℕ)
+    → (failures : ℕ) → Type 0
 TakesAtOperator = TakesAtPath Operators
 
 -- a text was said at the operator's path, where a text that is lost is a fault, unless the count of
@@ -143,6 +152,52 @@ pub record IsUnasked {N : Type 0} (takings_in : N → Option (List Taking))
   pub news : (other : Port) → are_apart port other ≡ true
       → news_in network_then other ≡ news_in network other
 
+-- whether more may be at a port is noted, where it is looked at anew or nothing may be there; else
+-- its news stay
+abbrev pub NotesIf : Bool → (may_be old new : Bool) → Type 0
+NotesIf true may_be old new = IsNoted may_be old new
+NotesIf false may_be old new = new ≡ old
+
+-- the same, if the port has a path
+abbrev pub NotesAtPath : {C : Type 0} → Option (PathState C) → (anew may_be old new : Bool) → Type 0
+NotesAtPath None anew may_be old new = Unit {0}
+NotesAtPath (Some path) anew may_be old new = NotesIf (anew || not may_be) may_be old new
+
+-- a take at a path that was looked at, anew or not: more may be there where something was heard, or
+-- it failed; and the wire has heard something where the path did
+pub record HearsAtPath {N C : Type 0} (news_in : N → Port → Bool) (path : Option (PathState C))
+    (anew : Bool) (port : Port) (fault heard : Bool) (old new : ControlWire N C) : Type 0 where
+  pub heard : new.heard ≡ old.heard || heard
+  pub noted : NotesAtPath path anew (heard || fault) (news_in old.network port)
+      (news_in new.network port)
+
+-- a take at the operator's path, which is looked at; of all else that of the wire stays
+pub record TakesOperator {N C : Type 0} (takings_in : N → Option (List Taking))
+    (gives_in : N → Option (List Give)) (news_in : N → Port → Bool)
+    (calls_of : C → Option (List ConnectionCall)) (anew : Bool) (old new : ControlWire N C)
+    (room : ℕ) (result : Result (Option (Place × ℕ)) WireFault) (room_then : List ℕ)
+    : Type 0 where
+  pub heard : Bool
+  pub takes : TakesAtOperator calls_of old.operator new.operator room result heard room_then
+      old.failures
+  pub hears : HearsAtPath news_in old.operator anew Operator (is_err result) heard old new
+  pub unasked : IsUnasked takings_in gives_in news_in Operator old.network new.network
+  pub controls : new.controls.items ≡ old.controls.items
+
+-- the same at the path of a slot
+pub record TakesControl {N C : Type 0} (takings_in : N → Option (List Taking))
+    (gives_in : N → Option (List Give)) (news_in : N → Port → Bool)
+    (calls_of : C → Option (List ConnectionCall)) (anew : Bool) (slot : ℕ)
+    (old new : ControlWire N C) (room : ℕ) (result : Result (Option (Place × ℕ)) WireFault)
+    (room_then : List ℕ) : Type 0 where
+  pub heard : Bool
+  pub takes : TakesAtControl calls_of slot old.controls.items new.controls.items room result heard
+      room_then old.failures
+  pub hears : HearsAtPath news_in (control_at old.controls.items slot) anew (Control slot)
+      (is_err result) heard old new
+  pub unasked : IsUnasked takings_in gives_in news_in (Control slot) old.network new.network
+  pub operator : new.operator ≡ old.operator
+
 -- a take at the path of a port that is looked at, and one at a port that isn't
 abbrev pub IfLooks : {N C : Type 0} → Bool → (old new : ControlWire N C)
     → Result (Option (Place × ℕ)) WireFault → (ended : Bool) → Type 0 → Type 0
@@ -157,6 +212,7 @@ TakesTelegram takings_in old new port result ended room_then =
     TakesOverNetwork (takings_in old.network) (takings_in new.network) port ended result
     room_then old.failures
     × (new.operator ≡ old.operator) × (new.controls.items ≡ old.controls.items)
+    × (new.heard ≡ old.heard)
 
 -- a take at a port: of the network, or at the operator's path or that of a slot, and nowhere else;
 -- at a path that isn't looked at nothing is asked, and nothing found. It hands in the end of an
@@ -165,32 +221,28 @@ TakesTelegram takings_in old new port result ended room_then =
 abbrev pub TakesAtPort : {N C : Type 0} → (takings_in : N → Option (List Taking))
     → (gives_in : N → Option (List Give)) → (news_in : N → Port → Bool)
     → (calls_of : C → Option (List ConnectionCall))
-    → (looks : Bool) → (old new : ControlWire N C) → Port
+    → (looks anew : Bool) → (old new : ControlWire N C) → Port
     → (room : ℕ) → Result (Option (Place × ℕ)) WireFault → (ended : Bool) → (room_then : List ℕ)
     → Type 0
-TakesAtPort takings_in gives_in news_in calls_of looks old new Pd room result ended room_then =
+TakesAtPort takings_in gives_in news_in calls_of looks anew old new Pd room result ended room_then =
     TakesTelegram takings_in old new Pd result ended room_then
-TakesAtPort takings_in gives_in news_in calls_of looks old new Md room result ended room_then =
+TakesAtPort takings_in gives_in news_in calls_of looks anew old new Md room result ended room_then =
     TakesTelegram takings_in old new Md result ended room_then
-TakesAtPort takings_in gives_in news_in calls_of looks old new (PdGroup group) room result ended
+TakesAtPort takings_in gives_in news_in calls_of looks anew old new (PdGroup group) room result ended
     room_then =
     TakesTelegram takings_in old new (PdGroup group) result ended room_then
-TakesAtPort takings_in gives_in news_in calls_of looks old new (MdGroup group) room result ended
+TakesAtPort takings_in gives_in news_in calls_of looks anew old new (MdGroup group) room result ended
     room_then =
     TakesTelegram takings_in old new (MdGroup group) result ended room_then
-TakesAtPort takings_in gives_in news_in calls_of looks old new Operator room result ended
+TakesAtPort takings_in gives_in news_in calls_of looks anew old new Operator room result ended
     room_then =
     IfLooks looks old new result ended
-    (TakesAtOperator calls_of old.operator new.operator room result room_then old.failures
-    × IsUnasked takings_in gives_in news_in Operator old.network new.network
-    × (new.controls.items ≡ old.controls.items) × (ended ≡ false))
-TakesAtPort takings_in gives_in news_in calls_of looks old new (Control slot) room result ended
-    room_then =
+    (TakesOperator takings_in gives_in news_in calls_of anew old new room result room_then
+    × (ended ≡ false))
+TakesAtPort takings_in gives_in news_in calls_of looks anew old new (Control slot) room result
+    ended room_then =
     IfLooks looks old new result ended
-    (TakesAtControl calls_of slot old.controls.items new.controls.items room result room_then
-    old.failures
-    × IsUnasked takings_in gives_in news_in (Control slot) old.network new.network
-    × (new.operator ≡ old.operator)
+    (TakesControl takings_in gives_in news_in calls_of anew slot old new room result room_then
     × (ended ≡ stands_for_end (has_ended_at (control_at new.controls.items slot))
     (arrived_in result room_then)))
 

@@ -4,8 +4,8 @@ ghost use Rattle.std.specs.Prelude.{◌≡◌, ◌<◌, ◌≤◌, length, IfOk,
 ghost use Rattle.std.specs.Prelude.{Bool, true, ◌||◌};
 ghost use Rattle.std.specs.Option.{option_map};
 ghost use Rattle.trdp_controls.specs.ControlWires.{GivesAtControl, GivesAtOperator};
-ghost use Rattle.trdp_controls.specs.ControlWires.{GivesOverNetwork, TakesAtControl};
-ghost use Rattle.trdp_controls.specs.ControlWires.{TakesAtOperator, TakesOverNetwork};
+ghost use Rattle.trdp_controls.specs.ControlWires.{GivesOverNetwork, TakesControl};
+ghost use Rattle.trdp_controls.specs.ControlWires.{TakesOperator, TakesOverNetwork};
 ghost use Rattle.trdp_controls.specs.ControlWires.{GivesAtPort, IsUnasked, RestsOverNetwork};
 ghost use Rattle.trdp_controls.specs.ControlWires.{TakesAtPort};
 
@@ -46,12 +46,12 @@ pub struct ControlWire<N: Wire, C: Connections> {
 
 impl<N: WatchedWire, C: Connections> ControlWire<N, C> {
     ghost use Rattle.std.specs.Prelude.{◌≡◌, ◌<◌, ◌≤◌, ◌-◌, ◌^◌, length, IfOk, IfSome, OnErr};
-    ghost use Rattle.std.specs.Prelude.{is_err, nat_lt, None, Some, OnOk};
+    ghost use Rattle.std.specs.Prelude.{is_err, nat_lt, None, Some, OnOk, ◌||◌, not};
     ghost use Rattle.std.specs.Option.{option_map};
     ghost use Rattle.trdp_wire.specs.declared.port.Port.TheVariants.{Control, Operator};
     ghost use Rattle.trdp_controls.specs.ControlWires.{GivesAtControl, GivesAtOperator};
-    ghost use Rattle.trdp_controls.specs.ControlWires.{GivesOverNetwork, TakesAtControl};
-    ghost use Rattle.trdp_controls.specs.ControlWires.{IsUnasked, TakesAtOperator};
+    ghost use Rattle.trdp_controls.specs.ControlWires.{GivesOverNetwork, TakesControl};
+    ghost use Rattle.trdp_controls.specs.ControlWires.{IsUnasked, NotesIf, TakesOperator};
     ghost use Rattle.trdp_controls.specs.ControlWires.{control_at, has_ended_at};
     ghost use Rattle.trdp_wire.specs.Told.{arrived_in, stands_for_end};
     ghost use Rattle.trdp_controls.specs.ControlWires.{TakesOverNetwork};
@@ -97,6 +97,7 @@ impl<N: WatchedWire, C: Connections> ControlWire<N, C> {
         ensures fault { OnErr result.0 (self.old.failures < self.new.failures) }
         ensures operator { self.new.operator ≡ self.old.operator }
         ensures controls { self.new.controls ≡ self.old.controls }
+        ensures heard { self.new.heard ≡ self.old.heard }
         ensures kept { OnOk result.0 (self.new.unread ≡ self.old.unread) }
         ensures failed { OnErr result.0 (option_map (λ u. u.port) self.new.unread ≡ Some port) }
     {
@@ -125,15 +126,12 @@ impl<N: WatchedWire, C: Connections> ControlWire<N, C> {
         room: &mut [u8],
     ) -> (Result<Option<(Place, usize)>, WireFault>, bool)
         ensures within { IfOk result.0 (λ found. IfSome found (λ f. f.1 ≤ length room.new)) }
-        ensures takes { TakesAtControl C.calls slot self.old.controls.items
-            self.new.controls.items (length room.old) result.0 room.new self.old.failures }
+        ensures takes { TakesControl N.takings N.gives N.news C.calls anew slot self.old self.new
+            (length room.old) result.0 room.new }
         ensures ends { result.1 ≡ stands_for_end
             (has_ended_at (control_at self.new.controls.items slot))
             (arrived_in result.0 room.new) }
         ensures fault { OnErr result.0 (self.old.failures < self.new.failures) }
-        ensures network { IsUnasked N.takings N.gives N.news (Control slot) self.old.network
-            self.new.network }
-        ensures operator { self.new.operator ≡ self.old.operator }
         ensures kept { OnOk result.0 (self.new.unread ≡ self.old.unread) }
         ensures failed { OnErr result.0
             (option_map (λ u. u.port) self.new.unread ≡ Some (Control slot)) }
@@ -154,12 +152,9 @@ impl<N: WatchedWire, C: Connections> ControlWire<N, C> {
         room: &mut [u8],
     ) -> Result<Option<(Place, usize)>, WireFault>
         ensures within { IfOk result (λ found. IfSome found (λ f. f.1 ≤ length room.new)) }
-        ensures takes { TakesAtControl C.calls slot self.old.controls.items
-            self.new.controls.items (length room.old) result room.new self.old.failures }
+        ensures takes { TakesControl N.takings N.gives N.news C.calls anew slot self.old self.new
+            (length room.old) result room.new }
         ensures fault { OnErr result (self.old.failures < self.new.failures) }
-        ensures network { IsUnasked N.takings N.gives N.news (Control slot) self.old.network
-            self.new.network }
-        ensures operator { self.new.operator ≡ self.old.operator }
         ensures kept { OnOk result (self.new.unread ≡ self.old.unread) }
         ensures failed { OnErr result
             (option_map (λ u. u.port) self.new.unread ≡ Some (Control slot)) }
@@ -191,12 +186,9 @@ impl<N: WatchedWire, C: Connections> ControlWire<N, C> {
         room: &mut [u8],
     ) -> Result<Option<(Place, usize)>, WireFault>
         ensures within { IfOk result (λ found. IfSome found (λ f. f.1 ≤ length room.new)) }
-        ensures takes { TakesAtOperator C.calls self.old.operator self.new.operator
-            (length room.old) result room.new self.old.failures }
+        ensures takes { TakesOperator N.takings N.gives N.news C.calls anew self.old self.new
+            (length room.old) result room.new }
         ensures fault { OnErr result (self.old.failures < self.new.failures) }
-        ensures network { IsUnasked N.takings N.gives N.news Operator self.old.network
-            self.new.network }
-        ensures controls { self.new.controls ≡ self.old.controls }
         ensures kept { OnOk result (self.new.unread ≡ self.old.unread) }
         ensures failed { OnErr result (option_map (λ u. u.port) self.new.unread ≡ Some Operator) }
     {
@@ -218,6 +210,9 @@ impl<N: WatchedWire, C: Connections> ControlWire<N, C> {
     fn note(&mut self, port: Port, anew: bool, may_be: bool, heard: bool)
         ensures network { IsUnasked N.takings N.gives N.news port self.old.network
             self.new.network }
+        ensures noted { NotesIf (anew || not may_be) may_be
+            (N.news self.old.network port) (N.news self.new.network port) }
+        ensures heard { self.new.heard ≡ self.old.heard || heard }
         ensures failures { self.new.failures ≡ self.old.failures }
         ensures unread { self.new.unread ≡ self.old.unread }
         ensures operator { self.new.operator ≡ self.old.operator }
@@ -241,6 +236,7 @@ impl<N: WatchedWire, C: Connections> ControlWire<N, C> {
         ensures fault { OnErr result (self.old.failures < self.new.failures) }
         ensures operator { self.new.operator ≡ self.old.operator }
         ensures controls { self.new.controls ≡ self.old.controls }
+        ensures heard { self.new.heard ≡ self.old.heard }
     {
         match self.network.give(port, to, bytes) {
             Ok(()) => Ok(()),
@@ -261,6 +257,7 @@ impl<N: WatchedWire, C: Connections> ControlWire<N, C> {
         ensures fault { OnErr result (self.old.failures < self.new.failures) }
         ensures network { self.new.network ≡ self.old.network }
         ensures operator { self.new.operator ≡ self.old.operator }
+        ensures heard { self.new.heard ≡ self.old.heard }
     {
         match give_text_at(&mut self.controls, usize::from(slot), to, text) {
             Ok(()) => Ok(()),
@@ -278,6 +275,7 @@ impl<N: WatchedWire, C: Connections> ControlWire<N, C> {
         ensures fault { OnErr result (self.old.failures < self.new.failures) }
         ensures network { self.new.network ≡ self.old.network }
         ensures controls { self.new.controls ≡ self.old.controls }
+        ensures heard { self.new.heard ≡ self.old.heard }
     {
         match give_text(&mut self.operator, to, text) {
             Ok(()) => Ok(()),
@@ -296,6 +294,7 @@ impl<N: WatchedWire, C: Connections> ControlWire<N, C> {
         ensures network { self.new.network ≡ self.old.network }
         ensures operator { self.new.operator ≡ self.old.operator }
         ensures controls { self.new.controls ≡ self.old.controls }
+        ensures heard { self.new.heard ≡ self.old.heard }
     {
         let fault = SocketFault {
             code: Some(NO_BUFFER_SPACE),
@@ -318,7 +317,7 @@ impl<N: WatchedWire, C: Connections> Wire for ControlWire<N, C> {
         ensures within { IfOk result (λ found. IfSome found (λ f. f.1 ≤ length room.new)) }
         ensures fault { OnErr result (self.old.failures < self.new.failures) }
         ensures takes { (ended : Bool) × TakesAtPort N.takings N.gives N.news C.calls
-            (N.news self.old.network port) self.old self.new port (length room.old) result
+            (N.news self.old.network port) false self.old self.new port (length room.old) result
             ended room.new }
         ensures kept { OnOk result (self.new.unread ≡ self.old.unread) }
         ensures failed { OnErr result (option_map (λ u. u.port) self.new.unread ≡ Some port) }
@@ -336,8 +335,8 @@ impl<N: WatchedWire, C: Connections> Wire for ControlWire<N, C> {
         ensures within { IfOk result.0 (λ found. IfSome found (λ f. f.1 ≤ length room.new)) }
         ensures fault { OnErr result.0 (self.old.failures < self.new.failures) }
         ensures takes { TakesAtPort N.takings N.gives N.news C.calls
-            (anew || N.news self.old.network port) self.old self.new port (length room.old)
-            result.0 result.1 room.new }
+            (anew || N.news self.old.network port) anew self.old self.new port
+            (length room.old) result.0 result.1 room.new }
         ensures kept { OnOk result.0 (self.new.unread ≡ self.old.unread) }
         ensures failed { OnErr result.0 (option_map (λ u. u.port) self.new.unread ≡ Some port) }
     {
@@ -355,6 +354,7 @@ impl<N: WatchedWire, C: Connections> Wire for ControlWire<N, C> {
     fn give(&mut self, port: Port, to: Place, bytes: &[u8]) -> Result<(), WireFault>
         ensures fault { OnErr result (self.old.failures < self.new.failures) }
         ensures gives { GivesAtPort N.gives C.calls self.old self.new port to bytes.now result }
+        ensures heard { self.new.heard ≡ self.old.heard }
     {
         match port {
             Port::Pd | Port::Md | Port::PdGroup(_) | Port::MdGroup(_) => {
@@ -419,6 +419,7 @@ impl<N: WatchedWire, C: Connections> WatchedWire for ControlWire<N, C> {
             self.new.network }
         ensures operator { self.new.operator ≡ self.old.operator }
         ensures controls { self.new.controls ≡ self.old.controls }
+        ensures heard { self.new.heard ≡ self.old.heard }
     {
         self.network.set_news(port, may_be);
     }

@@ -29,13 +29,14 @@
 //! `trdp_program` serves a node over this wire where it is given a folder.
 //!
 //! **Proved**, for any network, folder and connections: which files are listened at, in which
-//! folder and in which order; what a take and a give at a port do on either side. A take at the control port of a slot
-//! is one at the path of that slot and at no other, and the place that a line comes from is the
-//! number of its connection.
+//! folder and in which order; what a take and a give at a port do on either side. A take at the
+//! control port of a slot is one at the path of that slot and at no other, and the place that a line
+//! comes from is the number of its connection. The news of a path end where a take there neither
+//! heard anything nor failed, and at no other path. A rest of the wire is one of the network, of no
+//! time where a path heard something since the rest before.
 //!
-//! **Tested** over daemons: by which number the system reports, when the news of a path end, and
-//! when a rest of the wire waits. The wire forgets the news where the path heard nothing, and
-//! rests where none did.
+//! **Tested** over daemons: by which number the system reports, that the files that are gone are
+//! named, and with which of the system's errors a take or a give fails.
 //!
 //! **Trusted**: the system. Each call here is one of the system's, with bounds and a reading of
 //! its answer.

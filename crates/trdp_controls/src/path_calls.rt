@@ -55,7 +55,7 @@ pub(crate) fn take_line<C: Connections, P: Policy>(
 ) -> (Result<Option<(Place, usize)>, WireFault>, bool)
     ensures within { IfOk result.0 (λ found. IfSome found (λ f. f.1 ≤ length room.new)) }
     ensures takes { TakesAtPath P.rule C.calls path.old path.new (length room.old) result.0
-        room.new failures.old }
+        result.1 room.new failures.old }
     ensures fault { OnErr result.0 (failures.old < failures.new) }
 {
     let Some(path) = path else {

@@ -23,12 +23,12 @@
 //! connections.say(1, 2, b"reset\n")?;                        // at the second read from it
 //! ```
 //!
-//! **Proved**: what each call of a wire, connections, a folder and a clock answers and records, as
-//! a function of what was laid down and of the calls before; and what the calls of sockets record.
+//! **Proved**: what each call answers and records, as a function of what was laid down and of the
+//! calls before. No contract says when a call that allocates finds no memory.
 //!
-//! **Tested** in `trdp_node_tests`: that sockets return what was laid down, in order, and report it
-//! in a wait; a daemon over a wire with an end, a path over connections, and a wire over control
-//! sockets that is opened in a folder.
+//! **Tested** in `trdp_node_tests`: the wires of `trdp_udp` over sockets in memory; a daemon over a
+//! wire with an end, a path over connections, and a wire over control sockets that is opened in a
+//! folder.
 //!
 //! **Trusted**: nothing; no call of the system is made here.
 #![tactic(auto)]

@@ -1,15 +1,20 @@
 //! Sockets in memory, for tests.
 
-ghost use Rattle.std.specs.Prelude.{◌≡◌, ◌≤◌, ◌∷◌, [], length, map, IfOk, IfSome};
+ghost use Rattle.std.specs.Prelude.{◌≡◌, ◌≤◌, ◌∷◌, ◌++◌, [], length, map, IfOk, IfSome, OnOk, OnErr};
 ghost use Rattle.std.specs.Prelude.{Some, None};
+ghost use Rattle.std.specs.List.{position};
 ghost use Rattle.trdp_memory.specs.MemorySockets.{Notes, call_of, give_fault, told_calls};
-ghost use Rattle.trdp_wire.specs.Sockets.{GivesFrom, TakesFrom, fault_of_result};
+ghost use Rattle.trdp_memory.specs.MemorySockets.{is_at, next_at, sockets_in, without_next};
+ghost use Rattle.trdp_wire.specs.News.{WaitsForNews};
+ghost use Rattle.trdp_wire.specs.Sockets.{Binds, GivesFrom, TakesFrom, Waits, Watches};
+ghost use Rattle.trdp_wire.specs.Sockets.{fault_of_result};
 ghost use Rattle.trdp_base.specs.Reported.{TellsMore};
-ghost use Rattle.trdp_wire.specs.Told.{arrival_in};
+ghost use Rattle.trdp_wire.specs.Told.{arrival_in, arrived_in};
 
 use crate::arrivals::fill;
 use crate::no_way::NO_WAY;
 use std::alloc::{AllocError, Global};
+use std::marker::Model;
 use trdp_base::{Ip, Place};
 use trdp_wire::{BindFault, SocketFault, Sockets, note_told};
 
@@ -42,6 +47,23 @@ struct SocketArrival {
     bytes: Vec<u8>,
 }
 
+impl Model for SocketArrival {
+    ghost use Rattle.trdp_memory.specs.MemorySockets.{WaitingDatagram};
+
+    ghost Value = { WaitingDatagram };
+
+    ghost view = { λ a. record { socket = a.socket; from = a.from; bytes = a.bytes.items } };
+}
+
+impl SocketArrival {
+    /// Whether it waits at this socket.
+    fn is_at(&self, socket: usize) -> bool
+        ensures { result ≡ is_at socket self.now }
+    {
+        self.socket == socket
+    }
+}
+
 /// Sockets in memory: datagrams are laid down for them, and they remember what was asked. They
 /// report that until an allocation fails, and then nothing. They refuse nothing but what is given
 /// for an address that was cut off.
@@ -63,6 +85,7 @@ impl MemorySockets {
     /// Sockets that nothing was asked of.
     pub fn new(alloc: Global) -> MemorySockets
         ensures calls { told_calls result ≡ Some [] }
+        ensures arrivals { result.arrivals.items ≡ [] }
         ensures far { result.far ≡ None }
     {
         MemorySockets {
@@ -79,7 +102,15 @@ impl MemorySockets {
     /// # Errors
     /// `AllocError` where an allocation for it fails.
     pub fn arrive(&mut self, socket: usize, from: Place, bytes: &[u8]) -> Result<(), AllocError>
-        ensures { told_calls self.new ≡ told_calls self.old }
+        ensures calls { told_calls self.new ≡ told_calls self.old }
+        ensures far { self.new.far ≡ self.old.far }
+        ensures arrives { OnOk result (self.new.arrivals.items
+            ≡ self.old.arrivals.items ++ (record {
+              socket = socket;
+              from = from;
+              bytes = bytes.now;
+            }) ∷ []) }
+        ensures kept { OnErr result (self.new.arrivals.items ≡ self.old.arrivals.items) }
     {
         let bytes = bytes.to_vec(self.alloc)?;
         self.arrivals.push(SocketArrival {
@@ -94,6 +125,7 @@ impl MemorySockets {
     pub fn cut_off(&mut self, far: Ip)
         ensures calls { told_calls self.new ≡ told_calls self.old }
         ensures far { self.new.far ≡ Some far }
+        ensures arrivals { self.new.arrivals.items ≡ self.old.arrivals.items }
     {
         self.far = Some(far);
     }
@@ -110,8 +142,12 @@ impl MemorySockets {
         ensures within { IfSome result (λ found. found.1 ≤ length room.new) }
         ensures length { length room.new ≡ length room.old }
         ensures calls { told_calls self.new ≡ told_calls self.old }
+        ensures far { self.new.far ≡ self.old.far }
+        ensures found { arrival_in result room.new
+            ≡ next_at self.old.arrivals.items socket (length room.old) }
+        ensures rest { self.new.arrivals.items ≡ without_next self.old.arrivals.items socket }
     {
-        let index = self.arrivals.iter().position(|row| row.socket == socket)?;
+        let index = index_at(&self.arrivals, socket)?;
         let arrival = self.arrivals.remove(index);
         let len = fill(room, &arrival.bytes);
         Some((arrival.from, len))
@@ -121,7 +157,9 @@ impl MemorySockets {
     ///
     /// # Errors
     /// `AllocError` where an allocation for them fails.
-    fn sockets_of_arrivals(&self) -> Result<Vec<usize>, AllocError> {
+    fn sockets_of_arrivals(&self) -> Result<Vec<usize>, AllocError>
+        ensures { IfOk result (λ sockets. sockets.items ≡ sockets_in self.now.arrivals.items) }
+    {
         let mut sockets = Vec::new(self.alloc);
         for arrival in self.arrivals.iter() {
             sockets.push(arrival.socket)?;
@@ -144,7 +182,9 @@ impl MemorySockets {
 
     /// Remembers a call, unless there is no memory for it.
     fn note(&mut self, row: Result<SocketRow, AllocError>)
-        ensures { Notes row (told_calls self.old) (told_calls self.new) }
+        ensures notes { Notes row (told_calls self.old) (told_calls self.new) }
+        ensures far { self.new.far ≡ self.old.far }
+        ensures arrivals { self.new.arrivals.items ≡ self.old.arrivals.items }
     {
         match row {
             Ok(row) => {
@@ -160,7 +200,13 @@ impl MemorySockets {
 impl Sockets for MemorySockets {
     ghost calls = { told_calls };
 
-    fn bind(&mut self, socket: usize, place: Place, ttl: Option<u8>) -> Result<(), BindFault> {
+    fn bind(&mut self, socket: usize, place: Place, ttl: Option<u8>) -> Result<(), BindFault>
+        ensures told { TellsMore (told_calls self.old) (told_calls self.new)
+            (Binds socket place ttl (fault_of_result result) ∷ []) }
+        ensures granted { fault_of_result result ≡ None }
+        ensures far { self.new.far ≡ self.old.far }
+        ensures arrivals { self.new.arrivals.items ≡ self.old.arrivals.items }
+    {
         self.note(Ok(SocketRow::Bound(socket, place, ttl)));
         Ok(())
     }
@@ -169,7 +215,15 @@ impl Sockets for MemorySockets {
         &mut self,
         socket: usize,
         room: &mut [u8],
-    ) -> Result<Option<(Place, usize)>, SocketFault> {
+    ) -> Result<Option<(Place, usize)>, SocketFault>
+        ensures within { IfOk result (λ found. IfSome found (λ f. f.1 ≤ length room.new)) }
+        ensures told { TellsMore (told_calls self.old) (told_calls self.new)
+            (TakesFrom socket (length room.new) (arrived_in result room.new) ∷ []) }
+        ensures found { arrived_in result room.new
+            ≡ next_at self.old.arrivals.items socket (length room.old) }
+        ensures rest { self.new.arrivals.items ≡ without_next self.old.arrivals.items socket }
+        ensures far { self.new.far ≡ self.old.far }
+    {
         let found = self.next_at(socket, room);
         let row = taken(self.alloc, socket, room, found);
         self.note(row);
@@ -180,6 +234,8 @@ impl Sockets for MemorySockets {
         ensures told { TellsMore (told_calls self.old) (told_calls self.new)
             (GivesFrom socket to bytes.now (fault_of_result result) ∷ []) }
         ensures refused { fault_of_result result ≡ give_fault self.old.far to.ip }
+        ensures far { self.new.far ≡ self.old.far }
+        ensures arrivals { self.new.arrivals.items ≡ self.old.arrivals.items }
     {
         let answer = self.way_to(to.ip);
         let row = given(self.alloc, socket, to, bytes, answer);
@@ -187,13 +243,26 @@ impl Sockets for MemorySockets {
         answer
     }
 
-    fn watch(&mut self, _alloc: Global, socket: usize) -> Result<(), BindFault> {
+    fn watch(&mut self, _alloc: Global, socket: usize) -> Result<(), BindFault>
+        ensures told { TellsMore (told_calls self.old) (told_calls self.new)
+            (Watches socket (fault_of_result result) ∷ []) }
+        ensures granted { fault_of_result result ≡ None }
+        ensures far { self.new.far ≡ self.old.far }
+        ensures arrivals { self.new.arrivals.items ≡ self.old.arrivals.items }
+    {
         self.note(Ok(SocketRow::Watched(socket)));
         Ok(())
     }
 
     /// Reports each datagram that waits.
-    fn wait(&mut self, millis: u64, news: &mut [bool]) {
+    fn wait(&mut self, millis: u64, news: &mut [bool])
+        ensures waits { WaitsForNews millis (told_calls self.old) (told_calls self.new)
+            news.old news.new }
+        ensures told { TellsMore (told_calls self.old) (told_calls self.new)
+            (Waits millis (sockets_in self.old.arrivals.items) ∷ []) }
+        ensures far { self.new.far ≡ self.old.far }
+        ensures arrivals { self.new.arrivals.items ≡ self.old.arrivals.items }
+    {
         match self.sockets_of_arrivals() {
             Ok(told) => {
                 note_told(news, &told);
@@ -202,6 +271,13 @@ impl Sockets for MemorySockets {
             Err(_) => self.tells = false,
         }
     }
+}
+
+/// The index of the next datagram at a socket; None where none waits there.
+fn index_at(arrivals: &[SocketArrival], socket: usize) -> Option<usize>
+    ensures { result ≡ position (is_at socket) arrivals.now }
+{
+    arrivals.iter().position(|arrival| arrival.is_at(socket))
 }
 
 /// A take that put this into a room.
