@@ -46,7 +46,7 @@ pub struct ControlWire<N: Wire, C: Connections> {
 
 impl<N: WatchedWire, C: Connections> ControlWire<N, C> {
     ghost use Rattle.std.specs.Prelude.{◌≡◌, ◌<◌, ◌≤◌, ◌-◌, ◌^◌, length, IfOk, IfSome, OnErr};
-    ghost use Rattle.std.specs.Prelude.{is_err, nat_lt, None, Some, OnOk, ◌||◌, not};
+    ghost use Rattle.std.specs.Prelude.{is_err, nat_lt, None, Some, OnOk, ◌||◌, not, false};
     ghost use Rattle.std.specs.Option.{option_map};
     ghost use Rattle.trdp_wire.specs.declared.port.Port.TheVariants.{Control, Operator};
     ghost use Rattle.trdp_controls.specs.ControlWires.{GivesAtControl, GivesAtOperator};
@@ -69,6 +69,7 @@ impl<N: WatchedWire, C: Connections> ControlWire<N, C> {
         ensures failures { result.failures ≡ 0 }
         ensures refusal { result.refusal ≡ None }
         ensures unread { result.unread ≡ None }
+        ensures heard { result.heard ≡ false }
     {
         ControlWire {
             network,

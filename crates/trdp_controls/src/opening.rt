@@ -18,7 +18,7 @@ use trdp_lines::{Connections, ControlPath, Path, Policy};
 use trdp_wire::{GroupAddresses, Port, WatchedWire, control_number};
 
 impl<N: WatchedWire + Drop, C: Connections + Drop> ControlWire<N, C> {
-    ghost use Rattle.std.specs.Prelude.{◌≡◌, map, IfOk};
+    ghost use Rattle.std.specs.Prelude.{◌≡◌, map, IfOk, None, false};
     ghost use Rattle.trdp_wire.specs.Ports.{control_numbers};
     ghost use Rattle.trdp_wire.specs.Sockets.{fault_of_result};
     ghost use Rattle.trdp_controls.specs.Folders.{ListensInTurn, control_file, control_files};
@@ -45,6 +45,9 @@ impl<N: WatchedWire + Drop, C: Connections + Drop> ControlWire<N, C> {
             ≡ map (path_unless_0 (F.path folder.old)) (control_numbers config.now)) }
         ensures network { IfOk result (λ wire. wire.network ≡ network) }
         ensures failures { IfOk result (λ wire. wire.failures ≡ 0) }
+        ensures refusal { IfOk result (λ wire. wire.refusal ≡ None) }
+        ensures unread { IfOk result (λ wire. wire.unread ≡ None) }
+        ensures heard { IfOk result (λ wire. wire.heard ≡ false) }
     {
         let socket = GroupAddresses::of(config).socket_of(Port::Operator);
         let operator = path_at(alloc, folder, config.operator_port(), socket)?;
