@@ -38,12 +38,12 @@
 //!
 //! A take that finds nothing has asked for the next connection, unless one waits or the last number
 //! was given, and read from those that have a seat; none of these is over. If no call of it brought
-//! anything, none waits after it: the one that waited has the seat, or was closed. A take that finds
-//! something goes round the seats from the one behind the seat that it found something at before:
-//! each that it passes was read from, and nothing is left there. So no operator keeps another one
-//! from being heard. A take and a give write to a connection at least once if something waits for
-//! it. Where nothing is heard at a take, no call of the connections brought anything, and none
-//! waited.
+//! anything, none waits after it: the one that waited has the seat, or was closed. A take asks the
+//! seats in turn, from the one after that at which the take before found something, if it did.
+//! Each connection that it passes on the way to a text was read from, and has nothing left. So no
+//! operator keeps another from being heard. A take and a give write to a connection at least once
+//! if something waits for it. Where nothing is heard at a take, no call of the connections brought
+//! anything, and none waited.
 //!
 //! If connections report nothing, as the system's don't, only the clauses about their numbers hold
 //! of them. No contract says how much a write offers, what else a take writes, that it keeps what
