@@ -2,7 +2,7 @@
 use Rattle.std.specs.Prelude.{◌≡◌, ℕ, ◌^◌, ◌-◌, ◌&&◌, ◌||◌, not, nat_lt, List, [], ◌∷◌}
 use Rattle.std.specs.Prelude.{Option, Some, None, Result, Ok, Err, Bool, true, false}
 use Rattle.std.specs.Prelude.{option_map, is_err, if◌then◌else◌}
-use Rattle.std.specs.Prelude.{slice_index_or, slice_set}
+use Rattle.std.specs.Prelude.{◌<◌, length, slice_index_or, slice_set}
 use Rattle.trdp_base.specs.declared.place.Place.{Place}
 use Rattle.trdp_lines.specs.Askings.{AsksAll, IfNothing}
 use Rattle.trdp_lines.specs.Connections.{ConnectionCall}
@@ -158,18 +158,13 @@ abbrev pub NotesIf : Bool → (may_be old new : Bool) → Type 0
 NotesIf true may_be old new = IsNoted may_be old new
 NotesIf false may_be old new = new ≡ old
 
--- the same, if the port has a path
-abbrev pub NotesAtPath : {C : Type 0} → Option (PathState C) → (anew may_be old new : Bool) → Type 0
-NotesAtPath None anew may_be old new = Unit {0}
-NotesAtPath (Some path) anew may_be old new = NotesIf (anew || not may_be) may_be old new
-
--- a take at a path that was looked at, anew or not: more may be there where something was heard, or
--- it failed; and the wire has heard something where the path did
-pub record HearsAtPath {N C : Type 0} (news_in : N → Port → Bool) (path : Option (PathState C))
+-- a take at the path of a port that was looked at, anew or not, if it is there: more may be there
+-- where something was heard, or it failed. The wire has heard something where the path did
+pub record HearsAtPath {N C : Type 0} (news_in : N → Port → Bool) (there : Type 0)
     (anew : Bool) (port : Port) (fault heard : Bool) (old new : ControlWire N C) : Type 0 where
   pub heard : new.heard ≡ old.heard || heard
-  pub noted : NotesAtPath path anew (heard || fault) (news_in old.network port)
-      (news_in new.network port)
+  pub noted : there → NotesIf (anew || not (heard || fault)) (heard || fault)
+      (news_in old.network port) (news_in new.network port)
 
 -- a take at the operator's path, which is looked at; of all else that of the wire stays
 pub record TakesOperator {N C : Type 0} (takings_in : N → Option (List Taking))
@@ -180,7 +175,7 @@ pub record TakesOperator {N C : Type 0} (takings_in : N → Option (List Taking)
   pub heard : Bool
   pub takes : TakesAtOperator calls_of old.operator new.operator room result heard room_then
       old.failures
-  pub hears : HearsAtPath news_in old.operator anew Operator (is_err result) heard old new
+  pub hears : HearsAtPath news_in (Unit {0}) anew Operator (is_err result) heard old new
   pub unasked : IsUnasked takings_in gives_in news_in Operator old.network new.network
   pub controls : new.controls.items ≡ old.controls.items
 
@@ -193,7 +188,7 @@ pub record TakesControl {N C : Type 0} (takings_in : N → Option (List Taking))
   pub heard : Bool
   pub takes : TakesAtControl calls_of slot old.controls.items new.controls.items room result heard
       room_then old.failures
-  pub hears : HearsAtPath news_in (control_at old.controls.items slot) anew (Control slot)
+  pub hears : HearsAtPath news_in (slot < length old.controls.items) anew (Control slot)
       (is_err result) heard old new
   pub unasked : IsUnasked takings_in gives_in news_in (Control slot) old.network new.network
   pub operator : new.operator ≡ old.operator
