@@ -162,7 +162,7 @@ NotesIf false may_be old new = new ≡ old
 -- where something was heard, or it failed. The wire has heard something where the path did
 pub record HearsAtPath {N C : Type 0} (news_in : N → Port → Bool) (there : Type 0)
     (anew : Bool) (port : Port) (fault heard : Bool) (old new : ControlWire N C) : Type 0 where
-  pub heard : new.heard ≡ old.heard || heard
+  pub hears : new.heard ≡ old.heard || heard
   pub noted : there → NotesIf (anew || not (heard || fault)) (heard || fault)
       (news_in old.network port) (news_in new.network port)
 

@@ -1,7 +1,7 @@
 //! The wire of a node whose lines come over control sockets.
 
 ghost use Rattle.std.specs.Prelude.{◌≡◌, ◌<◌, ◌≤◌, length, IfOk, IfSome, OnOk, OnErr, None, Some};
-ghost use Rattle.std.specs.Prelude.{Bool, true, ◌||◌};
+ghost use Rattle.std.specs.Prelude.{Bool, true, false, ◌||◌};
 ghost use Rattle.std.specs.Option.{option_map};
 ghost use Rattle.trdp_controls.specs.ControlWires.{GivesAtControl, GivesAtOperator};
 ghost use Rattle.trdp_controls.specs.ControlWires.{GivesOverNetwork, TakesControl};
