@@ -3,3 +3,4 @@ pub mod GiveRowLemmas
 pub mod TakeRowLemmas
 pub mod MemoryWireLemmas
 pub mod ConnectionLemmas
+pub mod WaitingLemmas

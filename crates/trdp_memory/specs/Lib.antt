@@ -4,3 +4,4 @@ pub mod MemoryFolders
 pub mod MemorySockets
 pub mod MemoryWires
 pub mod Rows
+pub mod Waiting

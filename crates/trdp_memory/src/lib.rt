@@ -25,7 +25,7 @@
 //!
 //! **Proved**: what each call answers and records, as a function of what was laid down and of the
 //! calls before. No contract says when a call that allocates finds no memory: it fails then, or the
-//! clock or the sockets report nothing from then on.
+//! clock, the sockets, the connections or the folder report nothing from then on.
 //!
 //! **Tested** in `trdp_node_tests`: the wires of `trdp_udp` over sockets in memory; a daemon over a
 //! wire with an end, a path over connections, and a wire over control sockets that is opened in a
@@ -46,6 +46,7 @@ mod no_way;
 mod offers;
 mod rows;
 mod stream_arrival;
+mod waiting;
 mod within_rooms;
 
 pub use connection_rows::ConnectionRow;

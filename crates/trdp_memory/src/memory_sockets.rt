@@ -2,9 +2,8 @@
 
 ghost use Rattle.std.specs.Prelude.{◌≡◌, ◌≤◌, ◌∷◌, ◌++◌, [], length, map, IfOk, IfSome, OnOk, OnErr};
 ghost use Rattle.std.specs.Prelude.{Some, None};
-ghost use Rattle.std.specs.List.{position};
 ghost use Rattle.trdp_memory.specs.MemorySockets.{Notes, call_of, give_fault, told_calls};
-ghost use Rattle.trdp_memory.specs.MemorySockets.{is_at, next_at, sockets_in, without_next};
+ghost use Rattle.trdp_memory.specs.Waiting.{next_at, sockets_in, without_next};
 ghost use Rattle.trdp_wire.specs.News.{WaitsForNews};
 ghost use Rattle.trdp_wire.specs.Sockets.{Binds, GivesFrom, TakesFrom, Waits, Watches};
 ghost use Rattle.trdp_wire.specs.Sockets.{fault_of_result};
@@ -13,8 +12,8 @@ ghost use Rattle.trdp_wire.specs.Told.{arrival_in, arrived_in};
 
 use crate::arrivals::fill;
 use crate::no_way::NO_WAY;
+use crate::waiting::{SocketArrival, index_at};
 use std::alloc::{AllocError, Global};
-use std::marker::Model;
 use trdp_base::{Ip, Place};
 use trdp_wire::{BindFault, SocketFault, Sockets, note_told};
 
@@ -34,34 +33,6 @@ pub enum SocketRow {
     Watched(usize),
     /// A wait, of that many milliseconds, and the numbers of the sockets that it reported.
     Waited(u64, Vec<usize>),
-}
-
-/// A datagram that waits at a socket.
-#[derive(Drop)]
-struct SocketArrival {
-    /// The number of the socket.
-    socket: usize,
-    /// Where it comes from.
-    from: Place,
-    /// Its bytes.
-    bytes: Vec<u8>,
-}
-
-impl Model for SocketArrival {
-    ghost use Rattle.trdp_memory.specs.MemorySockets.{WaitingDatagram};
-
-    ghost Value = { WaitingDatagram };
-
-    ghost view = { λ a. record { socket = a.socket; from = a.from; bytes = a.bytes.items } };
-}
-
-impl SocketArrival {
-    /// Whether it waits at this socket.
-    fn is_at(&self, socket: usize) -> bool
-        ensures { result ≡ is_at socket self.now }
-    {
-        self.socket == socket
-    }
 }
 
 /// Sockets in memory: datagrams are laid down for them, and they remember what was asked. They
@@ -271,13 +242,6 @@ impl Sockets for MemorySockets {
             Err(_) => self.tells = false,
         }
     }
-}
-
-/// The index of the next datagram at a socket; None where none waits there.
-fn index_at(arrivals: &[SocketArrival], socket: usize) -> Option<usize>
-    ensures { result ≡ position (is_at socket) arrivals.now }
-{
-    arrivals.iter().position(|arrival| arrival.is_at(socket))
 }
 
 /// A take that put this into a room.
