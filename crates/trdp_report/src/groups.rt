@@ -28,32 +28,19 @@ pub fn unjoined_groups<R: Files + AllocGlobal>(
     if config.groups().is_empty() {
         return Ok(text);
     }
-    if let Ok(joined) = fs::read(rt, JOINED) {
-        for group in config.groups() {
-            push_unjoined(alloc, &mut text, Ip(*group), &joined)?;
+    let Ok(joined) = fs::read(rt, JOINED) else {
+        return Ok(text);
+    };
+    for group in config.groups() {
+        // It is there in hexadecimal, its bytes reversed.
+        let digits = format!(in alloc; "{:08X}", group.swap_bytes())?;
+        if !joined.windows(DIGITS).any(|word| word == digits.as_bytes()) {
+            let group = shown(Ip(*group));
+            writeln!(
+                text,
+                "warning: no link has joined the group {group}: nothing comes from there"
+            )?;
         }
     }
     Ok(text)
-}
-
-/// Adds a line for a group that isn't among those which were joined.
-///
-/// # Errors
-/// `AllocError` where an allocation fails.
-fn push_unjoined(
-    alloc: Global,
-    text: &mut String,
-    group: Ip,
-    joined: &[u8],
-) -> Result<(), AllocError> {
-    // It is there in hexadecimal, its bytes reversed.
-    let digits = format!(in alloc; "{:08X}", group.0.swap_bytes())?;
-    if joined.windows(DIGITS).any(|word| word == digits.as_bytes()) {
-        return Ok(());
-    }
-    let group = shown(group);
-    writeln!(
-        text,
-        "warning: no link has joined the group {group}: nothing comes from there"
-    )
 }

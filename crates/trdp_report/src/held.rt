@@ -62,15 +62,9 @@ impl HeldPorts {
     /// Why the system refuses it.
     pub(crate) fn ask_to_wait<R: Net>(&mut self, rt: &R) -> io::Result<()> {
         let poll = Poll::new(rt)?;
-        let paths = self.paths.len();
-        let count = if paths == 0 {
-            0
-        } else {
-            paths.saturating_add(1)
-        };
-        for _ in 0..count {
-            let registry = poll.registry().try_clone()?;
-            self.registries.push(registry)?;
+        let folders = usize::from(!self.paths.is_empty());
+        for _ in 0..self.paths.len() + folders {
+            self.registries.push(poll.registry().try_clone()?)?;
         }
         Ok(())
     }

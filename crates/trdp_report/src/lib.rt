@@ -21,6 +21,7 @@ mod held;
 mod meaning;
 mod ports;
 mod refused;
+mod setup;
 mod warnings;
 mod words;
 

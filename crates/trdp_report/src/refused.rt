@@ -1,7 +1,8 @@
 //! Which port of a node the system refuses.
 
 use crate::held::HeldPorts;
-use crate::ports::{NamedPort, collision_at, ports_of};
+use crate::ports::NamedPort;
+use crate::setup::Setup;
 use std::alloc::{AllocError, Global};
 use std::fmt::Write;
 use std::fs::Files;
@@ -22,7 +23,7 @@ pub fn refused_ports<R: Files + Net>(
     config: &NodeConfig,
     folder: Option<&str>,
 ) -> Result<String, AllocError> {
-    let ports = ports_of(alloc, config, folder)?;
+    let ports = Setup { config, folder }.ports(alloc)?;
     let mut held = HeldPorts::with_room(alloc, ports.len())?;
     let text = refusals(rt, alloc, &ports, &mut held);
     held.give_back(rt);
@@ -43,18 +44,18 @@ fn refusals<R: Files + Net>(
     let mut text = String::new(alloc);
     for (index, port) in ports.iter().enumerate() {
         let site = port.site;
-        match collision_at(ports, index) {
-            Some(both) => writeln!(text, "port {site}: {both} it")?,
-            None => match held.ask(rt, site, format!(in alloc; "{site}")?) {
-                Ok(()) => {}
-                Err(error) => writeln!(text, "port {site}: {error}")?,
-            },
+        match port.first_among(ports, index) {
+            Some(first) => writeln!(text, "port {site}: {first} and {port} both name it")?,
+            None => {
+                if let Err(error) = held.ask(rt, site, format!(in alloc; "{site}")?) {
+                    writeln!(text, "port {site}: {error}")?;
+                }
+            }
         }
     }
     if text.is_empty() {
-        match held.ask_to_wait(rt) {
-            Ok(()) => {}
-            Err(error) => writeln!(text, "a wait at the ports: {error}")?,
+        if let Err(error) = held.ask_to_wait(rt) {
+            writeln!(text, "a wait at the ports: {error}")?;
         }
     }
     Ok(text)
