@@ -164,3 +164,9 @@ next_number f before after all numbers i number here more whole =
     let rest = map f (drop (i + 1) numbers) in
     ap (λ l. l ++ rest) more ∙ append_assoc before (f number ∷ []) rest
     ∙ ap (λ l. before ++ map f l) (sym here) ∙ whole
+
+-- one more, whose image is known
+pub one_more : {A B : Type 0} (f : A → B) (before after : List A) (x : A) (y : B)
+    → after ≡ before ++ x ∷ [] → f x ≡ y → map f after ≡ map f before ++ y ∷ []
+one_more f before after x y is same =
+    ap (λ l. map f l) is ∙ map-append f before (x ∷ []) ∙ ap (λ z. map f before ++ z ∷ []) same

@@ -10,16 +10,16 @@ ghost use Rattle.trdp_controls.specs.ControlWires.{GivesAtPort, IsUnasked, Rests
 ghost use Rattle.trdp_controls.specs.ControlWires.{TakesAtPort};
 
 use crate::path_calls::{
-    accept_error, give_text, give_text_at, is_end_at, missing_files, nothing, take_line,
+    accept_fault, give_text, give_text_at, is_end_at, missing_files, nothing, take_line,
 };
 use trdp_base::Place;
-use trdp_lines::{Connections, ControlPath, OperatorPath};
+use trdp_lines::{Connections, ControlPath, LostText, OperatorPath};
 use trdp_wire::{
     GiveRefusal, Missing, Port, SocketFault, Unread, WatchedWire, Wire, WireFault, fail,
 };
 
-/// The system's number of its error where there is no room for what is to go out (ENOBUFS).
-const NO_BUFFER_SPACE: i32 = 105;
+/// Why a text is lost: there is no room for what is to go out (ENOBUFS).
+const NO_BUFFER_SPACE: SocketFault = SocketFault { code: Some(105) };
 
 /// The wire of a node whose lines come over connections at paths: process data and message data go
 /// over a wire of the network, the lines of the operator and of the applications over the paths.
@@ -28,25 +28,25 @@ const NO_BUFFER_SPACE: i32 = 105;
 #[derive(Drop)]
 pub struct ControlWire<N: Wire, C: Connections> {
     /// The wire of the network, with the ports of process data and message data.
-    network: N,
+    pub(crate) network: N,
     /// The path of the operator's port; None where the configuration names none.
-    operator: Option<OperatorPath<C>>,
+    pub(crate) operator: Option<OperatorPath<C>>,
     /// The path of the control port of each slot, at the slot's index; None where the
     /// configuration names none.
-    controls: Vec<Option<ControlPath<C>>>,
+    pub(crate) controls: Vec<Option<ControlPath<C>>>,
     /// How often a take or a give failed, at most 2^64 - 1.
-    failures: u64,
+    pub(crate) failures: u64,
     /// The latest give that was refused; None before the first.
-    refusal: Option<GiveRefusal>,
+    pub(crate) refusal: Option<GiveRefusal>,
     /// The latest take that failed; None before the first.
-    unread: Option<Unread>,
+    pub(crate) unread: Option<Unread>,
     /// Whether something came or failed at a path since the latest rest.
-    heard: bool,
+    pub(crate) heard: bool,
 }
 
 impl<N: WatchedWire, C: Connections> ControlWire<N, C> {
     ghost use Rattle.std.specs.Prelude.{◌≡◌, ◌<◌, ◌≤◌, ◌-◌, ◌^◌, length, IfOk, IfSome, OnErr};
-    ghost use Rattle.std.specs.Prelude.{is_err, nat_lt, None, Some, OnOk, ◌||◌, not, false};
+    ghost use Rattle.std.specs.Prelude.{◌&&◌, is_err, nat_lt, None, Some, OnOk, ◌||◌, not, false};
     ghost use Rattle.std.specs.Option.{option_map};
     ghost use Rattle.trdp_wire.specs.declared.port.Port.TheVariants.{Control, Operator};
     ghost use Rattle.trdp_controls.specs.ControlWires.{GivesAtControl, GivesAtOperator};
@@ -55,32 +55,6 @@ impl<N: WatchedWire, C: Connections> ControlWire<N, C> {
     ghost use Rattle.trdp_controls.specs.ControlWires.{control_at, has_ended_at};
     ghost use Rattle.trdp_wire.specs.Told.{arrived_in, stands_for_end};
     ghost use Rattle.trdp_controls.specs.ControlWires.{TakesOverNetwork};
-
-    /// A wire over a network and paths, before its first take: `controls` has at the index of each
-    /// slot the path of its control port.
-    pub fn new(
-        network: N,
-        operator: Option<OperatorPath<C>>,
-        controls: Vec<Option<ControlPath<C>>>,
-    ) -> ControlWire<N, C>
-        ensures network { result.network ≡ network }
-        ensures operator { result.operator ≡ operator }
-        ensures controls { result.controls ≡ controls }
-        ensures failures { result.failures ≡ 0 }
-        ensures refusal { result.refusal ≡ None }
-        ensures unread { result.unread ≡ None }
-        ensures heard { result.heard ≡ false }
-    {
-        ControlWire {
-            network,
-            operator,
-            controls,
-            failures: 0,
-            refusal: None,
-            unread: None,
-            heard: false,
-        }
-    }
 
     /// Takes the next datagram at a port of the network, as [`Wire::find`] does.
     ///
@@ -103,17 +77,16 @@ impl<N: WatchedWire, C: Connections> ControlWire<N, C> {
         ensures failed { OnErr result.0 (option_map (λ u. u.port) self.new.unread ≡ Some port) }
     {
         let (found, ended) = self.network.find(port, anew, room);
-        match found {
-            Ok(found) => (Ok(found), ended),
-            Err(_) => {
-                let found = nothing(&mut self.failures);
-                if found.is_err() {
-                    let fault = fault_of(self.network.unread());
-                    self.unread = Some(Unread { port, fault });
-                }
-                (found, ended)
-            }
+        if let Ok(found) = found {
+            return (Ok(found), ended);
         }
+        let found = nothing(&mut self.failures);
+        if found.is_err() {
+            let unread = self.network.unread();
+            let fault = unread.map_or(SocketFault { code: None }, |unread| unread.fault);
+            self.unread = Some(Unread { port, fault });
+        }
+        (found, ended)
     }
 
     /// Takes the next line of the application of a slot, or its end, and returns which it is.
@@ -164,16 +137,14 @@ impl<N: WatchedWire, C: Connections> ControlWire<N, C> {
         if index >= self.controls.len() {
             return Ok(None);
         }
+        let port = Port::Control(slot);
         let control = &mut self.controls[index];
         let (found, heard) = take_line(control, room, &mut self.failures);
         if found.is_err() {
-            let code = accept_error(&self.controls[index]);
-            self.unread = Some(Unread {
-                port: Port::Control(slot),
-                fault: SocketFault { code },
-            });
+            let fault = accept_fault(&self.controls[index]);
+            self.unread = Some(Unread { port, fault });
         }
-        self.note(Port::Control(slot), anew, heard || found.is_err(), heard);
+        self.note(port, anew, heard || found.is_err(), heard);
         found
     }
 
@@ -193,15 +164,13 @@ impl<N: WatchedWire, C: Connections> ControlWire<N, C> {
         ensures kept { OnOk result (self.new.unread ≡ self.old.unread) }
         ensures failed { OnErr result (option_map (λ u. u.port) self.new.unread ≡ Some Operator) }
     {
+        let port = Port::Operator;
         let (found, heard) = take_line(&mut self.operator, room, &mut self.failures);
         if found.is_err() {
-            let code = accept_error(&self.operator);
-            self.unread = Some(Unread {
-                port: Port::Operator,
-                fault: SocketFault { code },
-            });
+            let fault = accept_fault(&self.operator);
+            self.unread = Some(Unread { port, fault });
         }
-        self.note(Port::Operator, anew, heard || found.is_err(), heard);
+        self.note(port, anew, heard || found.is_err(), heard);
         found
     }
 
@@ -219,9 +188,7 @@ impl<N: WatchedWire, C: Connections> ControlWire<N, C> {
         ensures operator { self.new.operator ≡ self.old.operator }
         ensures controls { self.new.controls ≡ self.old.controls }
     {
-        if heard {
-            self.heard = true;
-        }
+        self.heard = self.heard || heard;
         if anew || !may_be {
             self.network.set_news(port, may_be);
         }
@@ -248,58 +215,29 @@ impl<N: WatchedWire, C: Connections> ControlWire<N, C> {
         }
     }
 
-    /// Says a text to the application of a slot, where its connection has that place.
-    ///
-    /// # Errors
-    /// `WireFault`, where there is no room for it.
-    fn give_control(&mut self, slot: u16, to: Place, text: &[u8]) -> Result<(), WireFault>
-        ensures gives { GivesAtControl C.calls slot self.old.controls.items
-            self.new.controls.items to text.now result self.old.failures }
-        ensures fault { OnErr result (self.old.failures < self.new.failures) }
-        ensures network { self.new.network ≡ self.old.network }
-        ensures operator { self.new.operator ≡ self.old.operator }
-        ensures heard { self.new.heard ≡ self.old.heard }
-    {
-        match give_text_at(&mut self.controls, usize::from(slot), to, text) {
-            Ok(()) => Ok(()),
-            Err(_) => self.lose(Port::Control(slot), to),
-        }
-    }
-
-    /// Says a text to the connection of the operator that has that place.
-    ///
-    /// # Errors
-    /// `WireFault`, where there is no room for it.
-    fn give_operator(&mut self, to: Place, text: &[u8]) -> Result<(), WireFault>
-        ensures gives { GivesAtOperator C.calls self.old.operator self.new.operator
-            to text.now result self.old.failures }
-        ensures fault { OnErr result (self.old.failures < self.new.failures) }
-        ensures network { self.new.network ≡ self.old.network }
-        ensures controls { self.new.controls ≡ self.old.controls }
-        ensures heard { self.new.heard ≡ self.old.heard }
-    {
-        match give_text(&mut self.operator, to, text) {
-            Ok(()) => Ok(()),
-            Err(_) => self.lose(Port::Operator, to),
-        }
-    }
-
-    /// Counts a text that was lost because there is no room for it, and keeps it as the latest
-    /// refusal.
+    /// The answer of a give at a path to what became of its text. One that was lost, because there
+    /// is no room for it, is counted and kept as the latest refusal.
     ///
     /// # Errors
     /// `WireFault`, where the count of failures rose.
-    fn lose(&mut self, port: Port, to: Place) -> Result<(), WireFault>
+    fn count_lost(
+        &mut self,
+        said: Result<(), LostText>,
+        port: Port,
+        to: Place,
+    ) -> Result<(), WireFault>
         ensures fault { OnErr result (self.old.failures < self.new.failures) }
-        ensures counted { is_err result ≡ nat_lt self.old.failures (2 ^ 64 - 1) }
+        ensures counted { is_err result
+            ≡ is_err said && nat_lt self.old.failures (2 ^ 64 - 1) }
         ensures network { self.new.network ≡ self.old.network }
         ensures operator { self.new.operator ≡ self.old.operator }
         ensures controls { self.new.controls ≡ self.old.controls }
         ensures heard { self.new.heard ≡ self.old.heard }
     {
-        let fault = SocketFault {
-            code: Some(NO_BUFFER_SPACE),
-        };
+        if said.is_ok() {
+            return Ok(());
+        }
+        let fault = NO_BUFFER_SPACE;
         self.refusal = Some(GiveRefusal { port, to, fault });
         fail(&mut self.failures)
     }
@@ -361,8 +299,14 @@ impl<N: WatchedWire, C: Connections> Wire for ControlWire<N, C> {
             Port::Pd | Port::Md | Port::PdGroup(_) | Port::MdGroup(_) => {
                 self.give_telegram(port, to, bytes)
             }
-            Port::Operator => self.give_operator(to, bytes),
-            Port::Control(slot) => self.give_control(slot, to, bytes),
+            Port::Operator => {
+                let said = give_text(&mut self.operator, to, bytes);
+                self.count_lost(said, port, to)
+            }
+            Port::Control(slot) => {
+                let said = give_text_at(&mut self.controls, usize::from(slot), to, bytes);
+                self.count_lost(said, port, to)
+            }
         }
     }
 
@@ -423,13 +367,5 @@ impl<N: WatchedWire, C: Connections> WatchedWire for ControlWire<N, C> {
         ensures heard { self.new.heard ≡ self.old.heard }
     {
         self.network.set_news(port, may_be);
-    }
-}
-
-/// Why a take failed; without a number where the wire keeps no such take.
-fn fault_of(unread: Option<Unread>) -> SocketFault {
-    match unread {
-        Some(unread) => unread.fault,
-        None => SocketFault { code: None },
     }
 }

@@ -1,6 +1,7 @@
 //! A path that is held while others are asked for.
 
 use crate::socket_file::listen_at;
+use crate::teller::Teller;
 use mio::net::UnixListener;
 use std::fs::Files;
 use std::net::Net;
@@ -22,7 +23,7 @@ impl HeldPath {
     /// Why the system refuses it, in its own words, for example `Address already in use (os error
     /// 98)`; the path is left then as it was, or free.
     pub fn hold<R: Files + Net>(rt: &R, path: String) -> io::Result<HeldPath> {
-        let listener = listen_at(rt, path.as_str(), &None)?;
+        let listener = listen_at(rt, path.as_str(), &Teller::default())?;
         Ok(HeldPath {
             path,
             _listener: listener,

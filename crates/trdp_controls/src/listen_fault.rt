@@ -1,9 +1,5 @@
 //! Why no process listens at a path.
 
-ghost use Rattle.std.specs.Prelude.{◌≡◌};
-ghost use Rattle.std.specs.IoError.{error_kind};
-ghost use Rattle.trdp_controls.specs.Answers.{listen_fault_of};
-
 use std::io;
 use thiserror::Error;
 
@@ -18,12 +14,18 @@ pub enum ListenFault {
     OutOfMemory = 2,
 }
 
-/// What it means that the system refuses a path.
-pub(crate) fn listen_fault(error: io::Error) -> ListenFault
-    ensures { result ≡ listen_fault_of (error_kind error) }
-{
-    match error.kind() {
-        io::ErrorKind::OutOfMemory => ListenFault::OutOfMemory,
-        _ => ListenFault::Refused,
+impl From<io::Error> for ListenFault {
+    ghost use Rattle.std.specs.Prelude.{◌≡◌};
+    ghost use Rattle.std.specs.IoError.{error_kind};
+    ghost use Rattle.trdp_controls.specs.Answers.{listen_fault_of};
+
+    ghost from_gives = { λ error fault. fault ≡ listen_fault_of (error_kind error) };
+
+    /// What it means that the system refuses a path.
+    fn from(error: io::Error) -> ListenFault {
+        match error.kind() {
+            io::ErrorKind::OutOfMemory => ListenFault::OutOfMemory,
+            _ => ListenFault::Refused,
+        }
     }
 }

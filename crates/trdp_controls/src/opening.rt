@@ -4,7 +4,7 @@
 ghost use Rattle.std.specs.Prelude.{◌≡◌, ◌∷◌, [], ◌++◌, map, IfOk, IfSome, OnOk};
 ghost use Rattle.std.specs.Option.{option_map};
 ghost use Rattle.std.specs.List.{flat_map};
-ghost use Rattle.trdp_wire.specs.Ports.{control_numbers};
+ghost use Rattle.trdp_wire.specs.Ports.{control_numbers, place_of_port};
 ghost use Rattle.trdp_wire.specs.Sockets.{fault_of_result};
 ghost use Rattle.trdp_controls.specs.Folders.{ListensInTurn, control_file, control_files};
 ghost use Rattle.trdp_controls.specs.Folders.{file_unless_0, path_unless_0};
@@ -15,7 +15,7 @@ use crate::listen_fault::ListenFault;
 use std::alloc::Global;
 use trdp_dataset::NodeConfig;
 use trdp_lines::{Connections, ControlPath, Path, Policy};
-use trdp_wire::{GroupAddresses, Port, WatchedWire, control_number};
+use trdp_wire::{GroupAddresses, Port, WatchedWire, place_of_port, slot_number};
 
 impl<N: WatchedWire + Drop, C: Connections + Drop> ControlWire<N, C> {
     ghost use Rattle.std.specs.Prelude.{◌≡◌, map, IfOk, None, false};
@@ -49,10 +49,17 @@ impl<N: WatchedWire + Drop, C: Connections + Drop> ControlWire<N, C> {
         ensures unread { IfOk result (λ wire. wire.unread ≡ None) }
         ensures heard { IfOk result (λ wire. wire.heard ≡ false) }
     {
-        let socket = GroupAddresses::of(config).socket_of(Port::Operator);
-        let operator = path_at(alloc, folder, config.operator_port(), socket)?;
+        let operator = path_at(alloc, folder, config, Port::Operator)?;
         let controls = control_paths(alloc, folder, config)?;
-        Ok(ControlWire::new(network, operator, controls))
+        Ok(ControlWire {
+            network,
+            operator,
+            controls,
+            failures: 0,
+            refusal: None,
+            unread: None,
+            heard: false,
+        })
     }
 }
 
@@ -70,44 +77,15 @@ fn control_paths<C: Connections + Drop, F: Folder<C>>(
     ensures files { IfOk result (λ paths. control_files F.file_of paths.items
         ≡ map (path_unless_0 (F.path folder.old)) (control_numbers config.now)) }
 {
-    let groups = GroupAddresses::of(config);
     let mut paths = Vec::new(alloc);
     for slot in 0..config.slots() + config.spare_control_ports() {
-        let number = control_number(config, slot).unwrap_or(0);
-        let socket = socket_of_slot(&groups, slot);
-        push_path(alloc, folder, number, socket, &mut paths)?;
+        let path = path_at(alloc, folder, config, Port::Control(slot_number(slot)))?;
+        match paths.push(path) {
+            Ok(()) => {}
+            Err(_) => return Err(ListenFault::OutOfMemory),
+        }
     }
     Ok(paths)
-}
-
-/// The number of the socket that the control port of a slot would have.
-fn socket_of_slot(groups: &GroupAddresses, slot: usize) -> usize {
-    groups.socket_of(Port::Control(u16::try_from(slot).unwrap_or(u16::MAX)))
-}
-
-/// Adds the path of one more control port: None where its number is 0.
-///
-/// # Errors
-/// The folder's fault, and `OutOfMemory`.
-fn push_path<C: Connections + Drop, F: Folder<C>>(
-    alloc: Global,
-    folder: &mut F,
-    number: u16,
-    socket: usize,
-    paths: &mut Vec<Option<ControlPath<C>>>,
-) -> Result<(), ListenFault>
-    ensures listens { ListensInTurn (file_unless_0 number) (fault_of_result result)
-        (F.listenings folder.old) (F.listenings folder.new) }
-    ensures pushed { OnOk result (control_files F.file_of paths.new.items
-        ≡ control_files F.file_of paths.old.items
-        ++ path_unless_0 (F.path folder.old) number ∷ []) }
-    ensures stays { F.path folder.new ≡ F.path folder.old }
-{
-    let path = path_at(alloc, folder, number, socket)?;
-    match paths.push(path) {
-        Ok(()) => Ok(()),
-        Err(_) => Err(ListenFault::OutOfMemory),
-    }
 }
 
 /// Listens at the file of a port, unless its number is 0: the path of the port.
@@ -117,47 +95,23 @@ fn push_path<C: Connections + Drop, F: Folder<C>>(
 fn path_at<C: Connections + Drop, P: Policy + Drop, F: Folder<C>>(
     alloc: Global,
     folder: &mut F,
-    number: u16,
-    socket: usize,
+    config: &NodeConfig,
+    port: Port,
 ) -> Result<Option<Path<C, P>>, ListenFault>
-    ensures listens { ListensInTurn (file_unless_0 number) (fault_of_result result)
-        (F.listenings folder.old) (F.listenings folder.new) }
+    ensures listens { ListensInTurn (file_unless_0 (place_of_port config.now port).port)
+        (fault_of_result result) (F.listenings folder.old) (F.listenings folder.new) }
     ensures file { IfOk result (λ path. control_file F.file_of path
-        ≡ path_unless_0 (F.path folder.old) number) }
+        ≡ path_unless_0 (F.path folder.old) (place_of_port config.now port).port) }
     ensures stays { F.path folder.new ≡ F.path folder.old }
 {
-    match connections_at(folder, number, socket) {
-        Ok(Some(connections)) => match Path::new(alloc, connections) {
-            Ok(path) => Ok(Some(path)),
-            Err(_) => Err(ListenFault::OutOfMemory),
-        },
-        Ok(None) => Ok(None),
-        Err(fault) => Err(fault),
-    }
-}
-
-/// Listens at the file of a port, unless its number is 0.
-///
-/// # Errors
-/// The folder's fault.
-fn connections_at<C: Connections, F: Folder<C>>(
-    folder: &mut F,
-    number: u16,
-    socket: usize,
-) -> Result<Option<C>, ListenFault>
-    ensures listens { ListensInTurn (file_unless_0 number) (fault_of_result result)
-        (F.listenings folder.old) (F.listenings folder.new) }
-    ensures file { IfOk result (λ found. option_map F.file_of found
-        ≡ path_unless_0 (F.path folder.old) number) }
-    ensures stays { F.path folder.new ≡ F.path folder.old }
-    ensures none_came { IfOk result (λ found. IfSome found (λ connections.
-        IfSome (C.calls connections) (λ calls. calls ≡ []))) }
-{
+    let number = place_of_port(config, port).port;
     if number == 0 {
         return Ok(None);
     }
-    match folder.listen(number, socket) {
-        Ok(connections) => Ok(Some(connections)),
-        Err(fault) => Err(fault),
+    let socket = GroupAddresses::of(config).socket_of(port);
+    let connections = folder.listen(number, socket)?;
+    match Path::new(alloc, connections) {
+        Ok(path) => Ok(Some(path)),
+        Err(_) => Err(ListenFault::OutOfMemory),
     }
 }

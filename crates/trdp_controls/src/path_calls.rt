@@ -10,7 +10,7 @@ ghost use Rattle.trdp_wire.specs.Told.{arrived_in, stands_for_end};
 use crate::place::{number_of, place_of};
 use trdp_base::Place;
 use trdp_lines::{AcceptFault, Connections, ControlPath, LostText, OperatorPath, Path, Policy};
-use trdp_wire::{Missing, WireFault, fail};
+use trdp_wire::{Missing, SocketFault, WireFault, fail};
 
 /// What a take that failed finds: nothing, and the failure is counted.
 ///
@@ -21,10 +21,7 @@ pub(crate) fn nothing(failures: &mut u64) -> Result<Option<(Place, usize)>, Wire
     ensures fails { is_err result ≡ nat_lt failures.old (2 ^ 64 - 1) }
     ensures fault { OnErr result (failures.old < failures.new) }
 {
-    match fail(failures) {
-        Ok(()) => Ok(None),
-        Err(fault) => Err(fault),
-    }
+    fail(failures).map(|()| None)
 }
 
 /// The answer of a take at a path to what the path does.
@@ -66,13 +63,12 @@ pub(crate) fn take_line<C: Connections, P: Policy>(
     (answer_of(taken, failures), heard)
 }
 
-/// The system's number of its error (errno) at the latest connection that it refused at a path; None
-/// where there is no path, and where the system gives no number.
-pub(crate) fn accept_error<C: Connections, P: Policy>(path: &Option<Path<C, P>>) -> Option<i32> {
-    match path {
-        Some(path) => path.connections().accept_error(),
-        None => None,
-    }
+/// Why the system refused the latest connection at a path; without a number where there is no path.
+pub(crate) fn accept_fault<C: Connections, P: Policy>(path: &Option<Path<C, P>>) -> SocketFault {
+    let code = path
+        .as_ref()
+        .and_then(|path| path.connections().accept_error());
+    SocketFault { code }
 }
 
 /// Which files of the operator's path and of the slots' paths are gone.
@@ -81,19 +77,21 @@ pub(crate) fn missing_files<'a, C: Connections>(
     controls: &'a [Option<ControlPath<C>>],
 ) -> Missing<'a> {
     let mut missing = Missing::default();
-    if let Some(path) = operator {
-        note_file(&mut missing, path.connections().missing_file());
-    }
+    note_file(&mut missing, operator);
     for control in controls.iter() {
-        if let Some(path) = control {
-            note_file(&mut missing, path.connections().missing_file());
-        }
+        note_file(&mut missing, control);
     }
     missing
 }
 
-/// Notes one more file, if it is gone.
-fn note_file<'a>(missing: &mut Missing<'a>, file: Option<&'a str>) {
+/// Notes one more file, if there is a path and its file is gone.
+fn note_file<'a, C: Connections, P: Policy>(
+    missing: &mut Missing<'a>,
+    path: &'a Option<Path<C, P>>,
+) {
+    let file = path
+        .as_ref()
+        .and_then(|path| path.connections().missing_file());
     if file.is_some() {
         missing.first = missing.first.or(file);
         missing.count = missing.count.saturating_add(1);
@@ -109,10 +107,7 @@ pub(crate) fn is_end_at<C: Connections>(
     ensures { (room : List ℕ) → result
         ≡ stands_for_end (has_ended_at (control_at controls.now slot)) (arrived_in found room) }
 {
-    match found {
-        Ok(Some((from, _))) => has_ended_at(controls, slot, from),
-        _ => false,
-    }
+    matches!(found, Ok(Some((from, _))) if has_ended_at(controls, slot, from))
 }
 
 /// Whether the application of a slot that was at a place has ended: its connection speaks no more.

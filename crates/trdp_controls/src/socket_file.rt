@@ -3,7 +3,6 @@
 ghost use Rattle.std.specs.Prelude.{◌↔◌, pos, ◌≤ℤ◌, IsOk};
 
 use crate::teller::Teller;
-use mio::event::Source;
 use mio::net::{UnixListener, UnixStream};
 use std::fs::{Files, Permissions};
 use std::net::Net;
@@ -26,7 +25,7 @@ const BACKLOG: i32 = -1;
 pub(crate) fn listen_at<R: Files + Net>(
     rt: &R,
     path: &str,
-    teller: &Option<Teller>,
+    teller: &Teller,
 ) -> io::Result<UnixListener> {
     let address = net::SocketAddr::from_pathname(path)?;
     let socket = new_socket(rt)?;
@@ -34,14 +33,12 @@ pub(crate) fn listen_at<R: Files + Net>(
         fs::remove_file(rt, path)?;
     }
     rt.bind_unix(socket.as_fd(), &address)?;
-    match begin(rt, path, socket, teller) {
-        Ok(listener) => Ok(listener),
-        Err(error) => {
-            // Where it can't be removed, it is one at which no process listens.
-            let _ = fs::remove_file(rt, path);
-            Err(error)
-        }
+    let listener = begin(rt, path, socket, teller);
+    if listener.is_err() {
+        // Where it can't be removed, it is one at which no process listens.
+        let _ = fs::remove_file(rt, path);
     }
+    listener
 }
 
 /// A socket with the mode of its file to be: the system makes the file with that mode, less what
@@ -57,26 +54,20 @@ fn new_socket<R: Net>(rt: &R) -> io::Result<OwnedFd> {
 
 /// Whether there is a socket's file at a path at which no process listens.
 fn is_stale<R: Files + Net>(rt: &R, path: &str) -> bool {
-    match fs::symlink_metadata(rt, path) {
-        Ok(found) => found.file_type().is_socket() && is_deserted(rt, path),
-        Err(_) => false,
-    }
+    let found = fs::symlink_metadata(rt, path);
+    found.is_ok_and(|found| found.file_type().is_socket()) && is_deserted(rt, path)
 }
 
 /// Whether nothing is at a path.
 pub(crate) fn is_gone<R: Files>(rt: &R, path: &str) -> bool {
-    match fs::symlink_metadata(rt, path) {
-        Ok(_) => false,
-        Err(error) => error.kind() == io::ErrorKind::NotFound,
-    }
+    let found = fs::symlink_metadata(rt, path);
+    found.is_err_and(|error| error.kind() == io::ErrorKind::NotFound)
 }
 
 /// Whether no process listens at a socket's file.
 fn is_deserted<R: Net>(rt: &R, path: &str) -> bool {
-    match UnixStream::connect(rt, path) {
-        Ok(_) => false,
-        Err(error) => error.kind() == io::ErrorKind::ConnectionRefused,
-    }
+    let stream = UnixStream::connect(rt, path);
+    stream.is_err_and(|error| error.kind() == io::ErrorKind::ConnectionRefused)
 }
 
 /// Listens at a socket that is bound, once its file has the whole mode.
@@ -87,14 +78,14 @@ fn begin<R: Files>(
     rt: &R,
     path: &str,
     socket: OwnedFd,
-    teller: &Option<Teller>,
+    teller: &Teller,
 ) -> io::Result<UnixListener> {
     fs::set_permissions(rt, path, Permissions::from_mode(MODE))?;
     check(libc::net::listen(socket.as_raw_fd(), BACKLOG))?;
     let listener = net::UnixListener::from(socket);
     listener.set_nonblocking(true)?;
     let mut listener = UnixListener::from_std(listener);
-    watch(teller, &mut listener)?;
+    teller.watch(&mut listener)?;
     Ok(listener)
 }
 
@@ -109,25 +100,5 @@ fn check(status: i32) -> io::Result<()>
         Err(io::Error::from_raw_os_error(os::errno()))
     } else {
         Ok(())
-    }
-}
-
-/// Asks the system to report when a source has something to read; nothing without a teller.
-///
-/// # Errors
-/// The system's error.
-pub(crate) fn watch<S: Source>(teller: &Option<Teller>, source: &mut S) -> io::Result<()> {
-    match teller {
-        Some(teller) => teller.watch(source),
-        None => Ok(()),
-    }
-}
-
-/// Asks the system to report a source that is watched, from now on, when it has something to read
-/// and, where `room` is true, when it has room for what is written; nothing without a teller.
-pub(crate) fn watch_room<S: Source>(teller: &Option<Teller>, source: &mut S, room: bool) {
-    if let Some(teller) = teller {
-        // Where the system refuses it, what waits goes out at the next news of the path.
-        let _ = teller.watch_room(source, room);
     }
 }

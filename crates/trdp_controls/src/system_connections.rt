@@ -5,16 +5,16 @@ ghost use Rattle.std.specs.Io.{ReadsAtMost, WritesAtMost};
 ghost use Rattle.trdp_controls.specs.Paths.{path_of};
 
 use crate::answers::{came_of, unaccepted_of, went_of};
-use crate::listen_fault::{ListenFault, listen_fault};
+use crate::listen_fault::ListenFault;
 use crate::path::socket_path;
-use crate::socket_file::{is_gone, listen_at, watch, watch_room};
+use crate::socket_file::{is_gone, listen_at};
 use crate::teller::Teller;
 use mio::net::{UnixListener, UnixStream};
 use std::alloc::Global;
 use std::fs::Files;
+use std::io;
 use std::io::{ErrorKind, Read, Write};
 use std::net::Net;
-use std::{array, io};
 use trdp_lines::{Accepted, Came, Connections, Went};
 
 /// The most connections that are open at once: four operators, one that waits for a seat, and one
@@ -35,10 +35,10 @@ pub struct SystemConnections<'a, R: Files + Net> {
     path: String,
     /// The socket at which they come in.
     listener: UnixListener,
-    /// Those that are open; None is a free seat.
-    seats: [Option<Seated>; OPEN_MAX],
-    /// Where the system reports that one came, or can go on; None where it doesn't.
-    teller: Option<Teller>,
+    /// Those that are open, at most six, for which there is room.
+    seats: Vec<Seated>,
+    /// Where the system reports that one came, or can go on.
+    teller: Teller,
     /// The system's number of its error at the latest accept that failed; None before the first.
     accept_error: Option<i32>,
 }
@@ -55,8 +55,8 @@ struct Seated {
 }
 
 impl<'a, R: Files + Net> SystemConnections<'a, R> {
-    /// Listens at the file of that number in a folder. Where there is a teller, the system reports
-    /// when a connection, bytes, room for more or an end comes.
+    /// Listens at the file of that number in a folder. The teller is told when a connection, bytes,
+    /// room for more or an end comes.
     ///
     /// # Errors
     /// `Refused` where a process listens there, where something else than the file of a socket is
@@ -67,57 +67,44 @@ impl<'a, R: Files + Net> SystemConnections<'a, R> {
         alloc: Global,
         folder: &str,
         file_number: u16,
-        teller: Option<Teller>,
+        teller: Teller,
     ) -> Result<SystemConnections<'a, R>, ListenFault>
         ensures number { IfOk result (λ connections. connections.file_number ≡ file_number) }
         ensures path { IfOk result (λ connections.
             string_bytes connections.path ≡ path_of folder.now file_number) }
     {
         let path = socket_path(alloc, folder, file_number)?;
-        match listen_at(rt, path.as_str(), &teller) {
-            Ok(listener) => Ok(SystemConnections {
-                rt,
-                file_number,
-                path,
-                listener,
-                seats: array::from_fn(|_| None),
-                teller,
-                accept_error: None,
-            }),
-            Err(error) => Err(listen_fault(error)),
-        }
+        let seats = Vec::with_capacity(alloc, OPEN_MAX).map_err(|_| ListenFault::OutOfMemory)?;
+        let listener = listen_at(rt, path.as_str(), &teller)?;
+        Ok(SystemConnections {
+            rt,
+            file_number,
+            path,
+            listener,
+            seats,
+            teller,
+            accept_error: None,
+        })
     }
 
-    /// The stream of the open connection of that number; None where none is open.
-    fn stream(&self, number: u64) -> Option<&UnixStream> {
-        for seat in self.seats.iter() {
-            match seat {
-                Some(seated) if seated.number == number => return Some(&seated.stream),
-                _ => {}
-            }
-        }
-        None
-    }
-
-    /// Keeps a connection open, if there is room for it.
-    fn keep(&mut self, number: u64, mut stream: UnixStream) -> Accepted
-        ensures { self.new.file_number ≡ self.old.file_number }
+    /// Accepts the next connection, and keeps it open.
+    ///
+    /// # Errors
+    /// The system's error; `StorageFull` where too many are open.
+    fn open_next(&mut self, number: u64) -> io::Result<()>
+        ensures number { self.new.file_number ≡ self.old.file_number }
     {
-        for seat in self.seats.iter_mut() {
-            if seat.is_none() {
-                if let Err(error) = watch(&self.teller, &mut stream) {
-                    self.accept_error = error.raw_os_error();
-                    return Accepted::Failed;
-                }
-                *seat = Some(Seated {
-                    number,
-                    stream,
-                    is_behind: false,
-                });
-                return Accepted::Came;
-            }
+        let (mut stream, _) = self.listener.accept()?;
+        if self.seats.len() >= OPEN_MAX {
+            return Err(io::Error::from(ErrorKind::StorageFull));
         }
-        Accepted::Failed
+        self.teller.watch(&mut stream)?;
+        self.seats.push(Seated {
+            number,
+            stream,
+            is_behind: false,
+        })?;
+        Ok(())
     }
 }
 
@@ -127,14 +114,14 @@ impl Seated {
 
     /// Writes once. The system reports room only while some is missing: otherwise it would report
     /// each time that the other side reads.
-    fn write(&mut self, bytes: &[u8], teller: &Option<Teller>) -> Went
+    fn write(&mut self, bytes: &[u8], teller: &Teller) -> Went
         ensures { WentWithin (length bytes.now) result }
     {
         let went = went_of(write_to(&self.stream, bytes));
         let is_behind = went.count() < bytes.len();
         if is_behind != self.is_behind {
             self.is_behind = is_behind;
-            watch_room(teller, &mut self.stream, is_behind);
+            teller.watch_room(&mut self.stream, is_behind);
         }
         went
     }
@@ -148,8 +135,8 @@ impl<'a, R: Files + Net> Connections for SystemConnections<'a, R> {
     ghost file_number = { λ connections. connections.file_number };
 
     fn accept(&mut self, number: u64) -> Accepted {
-        match self.listener.accept() {
-            Ok((stream, _)) => self.keep(number, stream),
+        match self.open_next(number) {
+            Ok(()) => Accepted::Came,
             Err(error) => {
                 let accepted = unaccepted_of(&error);
                 if accepted == Accepted::Failed {
@@ -161,30 +148,21 @@ impl<'a, R: Files + Net> Connections for SystemConnections<'a, R> {
     }
 
     fn read(&mut self, number: u64, room: &mut [u8]) -> Came {
-        match self.stream(number) {
-            Some(stream) => came_of(read_from(stream, room)),
+        match self.seats.iter().find(|seated| seated.number == number) {
+            Some(seated) => came_of(read_from(&seated.stream, room)),
             None => Came::Ended,
         }
     }
 
     fn write(&mut self, number: u64, bytes: &[u8]) -> Went {
-        for seat in self.seats.iter_mut() {
-            match seat {
-                Some(seated) if seated.number == number => {
-                    return seated.write(bytes, &self.teller);
-                }
-                _ => {}
-            }
+        match self.seats.iter_mut().find(|seated| seated.number == number) {
+            Some(seated) => seated.write(bytes, &self.teller),
+            None => Went::Ended,
         }
-        Went::Ended
     }
 
     fn close(&mut self, number: u64) {
-        for seat in self.seats.iter_mut() {
-            if is_of(seat, number) {
-                *seat = None;
-            }
-        }
+        self.seats.retain(|seated| seated.number != number);
     }
 
     fn accept_error(&self) -> Option<i32> {
@@ -193,19 +171,7 @@ impl<'a, R: Files + Net> Connections for SystemConnections<'a, R> {
 
     fn missing_file(&self) -> Option<&str> {
         let path = self.path.as_str();
-        if is_gone(self.rt, path) {
-            Some(path)
-        } else {
-            None
-        }
-    }
-}
-
-/// Whether a connection of that number has this seat.
-fn is_of(seat: &Option<Seated>, number: u64) -> bool {
-    match seat {
-        Some(seated) => seated.number == number,
-        None => false,
+        is_gone(self.rt, path).then_some(path)
     }
 }
 

@@ -3,13 +3,12 @@
 ghost use Rattle.std.specs.Prelude.{◌≡◌};
 
 use crate::folder::Folder;
-use crate::listen_fault::{ListenFault, listen_fault};
+use crate::listen_fault::ListenFault;
 use crate::system_connections::SystemConnections;
 use crate::teller::Teller;
 use mio::Registry;
 use std::alloc::Global;
 use std::fs::Files;
-use std::io;
 use std::net::Net;
 
 /// A folder of the system, in which each path is the file of a Unix stream socket. It reports
@@ -39,20 +38,6 @@ impl<'a, R: Files + Net> SystemFolder<'a, R> {
             registry: None,
         }
     }
-
-    /// What reports one more path, by the number of this socket; None without a registry.
-    ///
-    /// # Errors
-    /// The system's error.
-    fn teller(&self, socket: usize) -> io::Result<Option<Teller>> {
-        match &self.registry {
-            Some(registry) => Ok(Some(Teller {
-                registry: registry.try_clone()?,
-                socket,
-            })),
-            None => Ok(None),
-        }
-    }
 }
 
 impl<'a, R: Files + Net> Folder<SystemConnections<'a, R>> for SystemFolder<'a, R> {
@@ -73,9 +58,11 @@ impl<'a, R: Files + Net> Folder<SystemConnections<'a, R>> for SystemFolder<'a, R
         number: u16,
         socket: usize,
     ) -> Result<SystemConnections<'a, R>, ListenFault> {
-        match self.teller(socket) {
-            Ok(teller) => SystemConnections::listen(self.rt, self.alloc, self.path, number, teller),
-            Err(error) => Err(listen_fault(error)),
-        }
+        let registry = match &self.registry {
+            Some(registry) => Some(registry.try_clone()?),
+            None => None,
+        };
+        let teller = Teller { registry, socket };
+        SystemConnections::listen(self.rt, self.alloc, self.path, number, teller)
     }
 }

@@ -5,10 +5,10 @@ use mio::{Interest, Registry, Token};
 use std::io;
 
 /// Where the system is asked to report a path, and by which number it does.
-#[derive(Drop)]
+#[derive(Default, Drop)]
 pub struct Teller {
-    /// Where it is asked.
-    pub registry: Registry,
+    /// Where it is asked; None where it reports nothing.
+    pub registry: Option<Registry>,
     /// The number of the socket that the path's port would have.
     pub socket: usize,
 }
@@ -19,22 +19,22 @@ impl Teller {
     /// # Errors
     /// The system's error.
     pub(crate) fn watch<S: Source>(&self, source: &mut S) -> io::Result<()> {
-        self.registry
-            .register(source, Token(self.socket), Interest::READABLE)
+        match &self.registry {
+            Some(registry) => registry.register(source, Token(self.socket), Interest::READABLE),
+            None => Ok(()),
+        }
     }
 
     /// Asks the system to report a source that is watched, from now on, when it has something to
     /// read and, where `room` is true, when it has room for what is written.
-    ///
-    /// # Errors
-    /// The system's error.
-    pub(crate) fn watch_room<S: Source>(&self, source: &mut S, room: bool) -> io::Result<()> {
-        let interest = if room {
-            Interest::READABLE | Interest::WRITABLE
-        } else {
-            Interest::READABLE
-        };
-        self.registry
-            .reregister(source, Token(self.socket), interest)
+    pub(crate) fn watch_room<S: Source>(&self, source: &mut S, room: bool) {
+        let mut interest = Interest::READABLE;
+        if room {
+            interest = interest | Interest::WRITABLE;
+        }
+        if let Some(registry) = &self.registry {
+            // Where the system refuses it, what waits goes out at the next news of the path.
+            let _ = registry.reregister(source, Token(self.socket), interest);
+        }
     }
 }
