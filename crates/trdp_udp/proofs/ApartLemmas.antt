@@ -2,7 +2,7 @@
 -- For `RestingWire::set_news`.
 -- By the kind of the port that a socket's number tells.
 use Rattle.std.proofs.Common.{◌≡◌, ℕ, zero, suc, ◌+◌, ◌*◌, ◌<◌, Bool, true, false, ◌&&◌, not, List, []}
-use Rattle.std.proofs.Common.{◌∷◌, ◌⊎◌, inl, inr, refl, sym, ◌∙◌, ap, arith, nat_lt, if◌then◌else◌}
+use Rattle.std.proofs.Common.{◌∷◌, inl, inr, refl, sym, ◌∙◌, ap, arith, nat_lt, if◌then◌else◌}
 use Rattle.std.specs.Prelude.{◌==◌, slice_set}
 use Rattle.std.proofs.lemmas.Bool.Decides.{nat_tests}
 use Rattle.trdp_wire.specs.declared.port.Port.{Port}

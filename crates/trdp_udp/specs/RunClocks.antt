@@ -2,7 +2,7 @@
 use Rattle.std.specs.Prelude.{◌≡◌, ℕ, ◌-◌, ◌/◌, ◌^◌, min, Option, Some, None}
 use Rattle.std.specs.Time.{instant_nanos}
 use Rattle.std.specs.declared.time.Instant.{Instant}
-use Rattle.trdp_udp.specs.declared.run_clock.MomentCount.{MomentCount}
+use Rattle.trdp_udp.specs.declared.run_clock.RunClock.{RunClock}
 
 -- whole microseconds from one time to another, at most 2^64 - 1; 0 where the other is earlier
 abbrev pub micros_between : Instant → Instant → ℕ
@@ -22,7 +22,7 @@ number_after (Some start) last None = last
 number_after None last moment = last
 
 -- a reading gave this time, or none, and made this number
-pub record CountsReading (old new : MomentCount) (moment : Option Instant)
+pub record CountsReading {R : Type 0} (old new : RunClock R) (moment : Option Instant)
     (number : ℕ) : Type 0 where
   pub start : new.start ≡ start_after old.start moment
   pub last : new.last ≡ number

@@ -45,10 +45,7 @@ impl RestStep {
     pub(crate) fn is_rest(self) -> bool
         ensures { result ≡ is_rest self }
     {
-        match self {
-            RestStep::GoOn | RestStep::Look => false,
-            RestStep::Sleep(_) | RestStep::Wait(_) => true,
-        }
+        matches!(self, RestStep::Sleep(_) | RestStep::Wait(_))
     }
 }
 
@@ -69,10 +66,7 @@ pub(crate) fn rest_left(ended: Option<u64>, began: u64, most: u64) -> u64
 pub(crate) fn is_breathless(busy: Option<u64>, reading: u64) -> bool
     ensures { result ≡ is_breathless busy reading }
 {
-    match busy {
-        Some(since) => BREATHLESS <= reading.saturating_sub(since),
-        None => false,
-    }
+    busy.is_some_and(|since| BREATHLESS <= reading.saturating_sub(since))
 }
 
 /// The step of a turn without a rest: `is_first` is whether it is the first after a rest.

@@ -97,29 +97,18 @@ impl<S: Sockets, C: Sleeper + Drop> RestingWire<S, C> {
         ensures groups { IfOk result (λ wire. wire.wire.groups ≡ config.now.groups) }
         ensures fresh { IfOk result (λ wire. HasTakenNothing clock wire) }
     {
-        match bind_and_watch_ports(&mut sockets, alloc, config, which) {
-            Ok(()) => Ok(RestingWire::over(sockets, GroupAddresses::of(config), which, clock)),
-            Err(fault) => Err((fault, sockets)),
+        if let Err(fault) = bind_and_watch_ports(&mut sockets, alloc, config, which) {
+            return Err((fault, sockets));
         }
-    }
-
-    /// A wire over sockets that are bound and watched, before its first take: something may be at
-    /// each.
-    fn over(sockets: S, groups: GroupAddresses, bound: BoundPorts, clock: C) -> RestingWire<S, C>
-        ensures sockets { result.wire.sockets ≡ sockets }
-        ensures groups { result.wire.groups ≡ groups }
-        ensures bound { result.wire.bound ≡ bound }
-        ensures fresh { HasTakenNothing clock result }
-    {
-        RestingWire {
-            wire: UdpWire::over(sockets, groups, bound),
+        Ok(RestingWire {
+            wire: UdpWire::over(sockets, GroupAddresses::of(config), which),
             clock,
             news: [true; SOCKETS_MAX],
             heard: false,
             is_first: true,
             busy: None,
             rested: None,
-        }
+        })
     }
 
     /// Its sockets.

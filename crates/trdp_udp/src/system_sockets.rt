@@ -80,13 +80,8 @@ impl<'a, R: Net> Sockets for SystemSockets<'a, R> {
         let Some(seat) = self.sockets.get_mut(socket) else {
             return Err(BindFault::Bind);
         };
-        match bind_socket(self.rt, place, ttl) {
-            Ok(bound) => {
-                *seat = Some(bound);
-                Ok(())
-            }
-            Err(error) => Err(bind_fault(error)),
-        }
+        *seat = Some(bind_socket(self.rt, place, ttl).map_err(bind_fault)?);
+        Ok(())
     }
 
     fn take(
@@ -134,13 +129,9 @@ impl Waits {
     /// # Errors
     /// `OutOfMemory` where an allocation for it fails, and else `Bind`.
     fn new<R: Net>(rt: &R, alloc: Global) -> Result<Waits, BindFault> {
-        let Ok(events) = Events::with_capacity(alloc, EVENTS) else {
-            return Err(BindFault::OutOfMemory);
-        };
-        match Poll::new(rt) {
-            Ok(poll) => Ok(Waits { poll, events }),
-            Err(error) => Err(bind_fault(error)),
-        }
+        let events = Events::with_capacity(alloc, EVENTS).map_err(|_| BindFault::OutOfMemory)?;
+        let poll = Poll::new(rt).map_err(bind_fault)?;
+        Ok(Waits { poll, events })
     }
 
     /// Asks the system to report when a datagram comes at the socket of that number.
@@ -150,10 +141,8 @@ impl Waits {
     fn watch(&self, number: usize, socket: &UdpSocket) -> Result<(), BindFault> {
         let mut source = SourceFd(&socket.as_raw_fd());
         let registry = self.poll.registry();
-        match registry.register(&mut source, Token(number), Interest::READABLE) {
-            Ok(()) => Ok(()),
-            Err(error) => Err(bind_fault(error)),
-        }
+        let watched = registry.register(&mut source, Token(number), Interest::READABLE);
+        watched.map_err(bind_fault)
     }
 
     /// Waits for at most `millis` milliseconds, and notes the numbers that the system reports. It
@@ -212,13 +201,8 @@ fn sent_whole(sent: io::Result<usize>, len: usize) -> Result<(), SocketFault>
     ensures { result ≡ sent_of sent len }
 {
     match sent {
-        Ok(count) => {
-            if count == len {
-                Ok(())
-            } else {
-                Err(SocketFault { code: None })
-            }
-        }
+        Ok(count) if count == len => Ok(()),
+        Ok(_) => Err(SocketFault { code: None }),
         Err(error) => Err(socket_fault(&error)),
     }
 }

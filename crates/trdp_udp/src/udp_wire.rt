@@ -4,7 +4,7 @@ ghost use Rattle.std.specs.Prelude.{◌≡◌, ◌<◌, ◌≤◌, ◌∷◌, []
 ghost use Rattle.std.specs.Prelude.{IfOk, IfErr, IfSome, OnErr, Bool, false, true};
 ghost use Rattle.trdp_wire.specs.Sockets.{MadeInTurn};
 ghost use Rattle.trdp_udp.specs.Openings.{binds_of};
-ghost use Rattle.trdp_udp.specs.SocketWires.{GivesAtSocket, TakesAtSocket, begins_as_answer};
+ghost use Rattle.trdp_udp.specs.SocketWires.{GivesAtSocket, TakesAtSocket};
 ghost use Rattle.trdp_udp.specs.SocketWires.{is_answer_at};
 
 use crate::bound_ports::BoundPorts;
@@ -235,21 +235,10 @@ impl<S: Sockets> WatchedWire for UdpWire<S> {
     {}
 }
 
-/// Whether a datagram at a port is an answer to one that was no line.
-#[tactic(auto, unfolding(crate::specs::SocketWires::is_answer_at))]
+/// Whether a datagram at a port is an answer to one that was no line: each begins alike.
+#[tactic(auto, unfolding(crate::specs::SocketWires::is_answer_at, crate::specs::SocketWires::begins_as_answer))]
 fn is_answer(port: Port, bytes: &[u8]) -> bool
     ensures { result ≡ is_answer_at port bytes.now }
 {
-    match port {
-        Port::Pd | Port::Md | Port::PdGroup(_) | Port::MdGroup(_) => false,
-        Port::Operator | Port::Control(_) => begins_as_answer(bytes),
-    }
-}
-
-/// Whether a datagram begins as each answer does to one that was no line.
-#[tactic(auto, unfolding(crate::specs::SocketWires::begins_as_answer))]
-fn begins_as_answer(bytes: &[u8]) -> bool
-    ensures { result ≡ begins_as_answer bytes.now }
-{
-    bytes.starts_with(FAULT_FRONT)
+    matches!(port, Port::Operator | Port::Control(_)) && bytes.starts_with(FAULT_FRONT)
 }

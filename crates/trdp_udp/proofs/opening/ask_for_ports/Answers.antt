@@ -1,4 +1,4 @@
-use Rattle.std.proofs.Common.{◌++◌, List, Option, map, sym, subst}
+use Rattle.std.proofs.Common.{List, Option, map, sym, subst}
 use Rattle.std.proofs.lemmas.List.{map-append}
 use Rattle.trdp_dataset.specs.Configs.{ConfigModel}
 use Rattle.trdp_udp.specs.declared.bound_ports.BoundPorts.{BoundPorts}

@@ -1,6 +1,6 @@
 use Rattle.std.proofs.Common.{refl}
 use Rattle.trdp_udp.proofs.RestingWireLemmas.{each_there}
-use Rattle.trdp_udp.proofs.resting_wire.RestingWire.over.Goals as goal
+use Rattle.trdp_udp.proofs.resting_wire.RestingWire.open.Goals as goal
 
 pub returns-clause-fresh : goal.returns-clause-fresh
 returns-clause-fresh g c = record {
