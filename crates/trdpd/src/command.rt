@@ -3,7 +3,7 @@
 
 use crate::version::VERSION;
 use clap::builder::ValueParser;
-use clap::{Arg, ArgAction, ArgMatches, Command, Error, value_parser};
+use clap::{Arg, ArgMatches, Command, Error, value_parser};
 use std::alloc::{AllocError, Global};
 use trdp_program::ServiceOptions;
 
@@ -13,38 +13,29 @@ const EXAMPLE: &str = "Example, with a configuration of this project:\n  \
      trdpd daemon examples/control/door.toml --totals 60\n\n\
      The manual page: man trdpd, or man docs/trdpd.1 in the project's folder";
 
+/// What the program is asked to do, with a configuration.
+#[derive(Clone, Copy)]
+pub struct Task<'a> {
+    /// The path of the configuration's file.
+    pub path: &'a str,
+    /// What else the words ask for; only a service has a lease, and a run has no folder either.
+    pub options: ServiceOptions<'a>,
+    /// What it is asked to do.
+    pub work: Work,
+}
+
 /// What the program is asked to do.
-pub enum Task<'a> {
-    /// To say what a configuration means.
-    Check {
-        /// The path of the configuration file.
-        path: &'a str,
-        /// The folder of the control sockets; None where the control ports are UDP ports.
-        folder: Option<&'a str>,
-    },
+#[derive(Clone, Copy)]
+pub enum Work {
+    /// To say what the configuration means.
+    Check,
     /// To run the script at standard input.
-    Run {
-        /// The path of the configuration file.
-        path: &'a str,
-    },
-    /// To serve the node over the system's sockets.
-    Serve {
-        /// The path of the configuration file.
-        path: &'a str,
-        /// What else it asks for.
-        options: ServiceOptions<'a>,
-        /// How many turns to take.
-        turns: u32,
-    },
-    /// To serve the node over the system's sockets until the program is stopped.
-    Daemon {
-        /// The path of the configuration file.
-        path: &'a str,
-        /// What else it asks for.
-        options: ServiceOptions<'a>,
-        /// The seconds from one line of totals to the next; 0 for no line.
-        seconds: u32,
-    },
+    Run,
+    /// To serve the node over the system's sockets for that many turns.
+    Serve(u32),
+    /// To serve the node over the system's sockets until the program is stopped. The number is the
+    /// seconds from one line of totals to the next; 0 for no line.
+    Daemon(u32),
 }
 
 /// Reads the words of the command line, of which the first names the program. Good words are
@@ -64,46 +55,21 @@ pub fn read_words<'a>(alloc: Global, words: &'a [String]) -> Result<Task<'a>, Er
 
 /// What good words ask for.
 fn task_of<'a>(matches: &ArgMatches<'a>) -> Task<'a> {
-    if let Some(serve) = matches.subcommand_matches("serve") {
-        return Task::Serve {
-            path: path_of(Some(serve)),
-            options: options_of(serve),
-            // The number is required, so that good words have it. No turn does no harm.
-            turns: serve.get_one::<u32>("turns").unwrap_or(0),
-        };
-    }
-    if let Some(daemon) = matches.subcommand_matches("daemon") {
-        return Task::Daemon {
-            path: path_of(Some(daemon)),
-            options: options_of(daemon),
-            seconds: daemon.get_one::<u32>("totals").unwrap_or(0),
-        };
-    }
-    if let Some(check) = matches.subcommand_matches("check") {
-        return Task::Check {
-            path: path_of(Some(check)),
-            folder: check.get_str("controls"),
-        };
-    }
-    Task::Run {
-        path: path_of(matches.subcommand_matches("run")),
-    }
-}
-
-/// The configuration file's path in the words of a task.
-fn path_of<'a>(words: Option<&ArgMatches<'a>>) -> &'a str {
-    // The path is required, so that good words have it. No file has the empty path.
-    match words {
-        Some(words) => words.get_str("CONFIG").unwrap_or(""),
-        None => "",
-    }
-}
-
-/// What the words of a service ask for, other than its configuration.
-fn options_of<'a>(words: &ArgMatches<'a>) -> ServiceOptions<'a> {
-    ServiceOptions {
-        folder: words.get_str("controls"),
-        lease: words.get_one::<u32>("lease"),
+    // What is asked for, the path and the turns are required, so that good words have them. No file
+    // has the empty path, and no turn does no harm.
+    let (name, words) = matches.subcommand().unwrap_or(("run", matches));
+    Task {
+        path: words.get_str("CONFIG").unwrap_or(""),
+        options: ServiceOptions {
+            folder: words.get_str("controls"),
+            lease: words.get_one::<u32>("lease"),
+        },
+        work: match name {
+            "check" => Work::Check,
+            "serve" => Work::Serve(words.get_one::<u32>("turns").unwrap_or(0)),
+            "daemon" => Work::Daemon(words.get_one::<u32>("totals").unwrap_or(0)),
+            _ => Work::Run,
+        },
     }
 }
 
@@ -141,7 +107,6 @@ fn serve<'a>(alloc: Global) -> Result<Command<'a>, AllocError> {
         .long("turns")
         .value_name("N")
         .required(true)
-        .action(ArgAction::Set)
         .value_parser(value_parser!(u32))
         .help("How many turns to take");
     Command::new(alloc, "serve")
@@ -157,7 +122,6 @@ fn daemon<'a>(alloc: Global) -> Result<Command<'a>, AllocError> {
     let totals = Arg::new(alloc, "totals")
         .long("totals")
         .value_name("SECONDS")
-        .action(ArgAction::Set)
         .value_parser(value_parser!(u32))
         .help("How many seconds lie between two lines of totals [default: 0, no line]");
     Command::new(alloc, "daemon")
@@ -173,7 +137,6 @@ fn controls<'a>(alloc: Global) -> Arg<'a> {
     Arg::new(alloc, "controls")
         .long("controls")
         .value_name("FOLDER")
-        .action(ArgAction::Set)
         .value_parser(ValueParser::NonEmptyString)
         .help("The folder of the control sockets, in place of UDP control ports")
 }
@@ -183,7 +146,6 @@ fn lease<'a>(alloc: Global) -> Arg<'a> {
     Arg::new(alloc, "lease")
         .long("lease")
         .value_name("SECONDS")
-        .action(ArgAction::Set)
         .value_parser(value_parser!(u32).range(1..=86_400))
         .help("After how many silent seconds of its application a slot is reset")
 }

@@ -48,14 +48,14 @@ mod command;
 mod version;
 
 use clap::error::ErrorKind;
-use command::{Task, read_words};
+use command::{Task, Work, read_words};
 use std::fmt::Display;
 use std::process::ExitCode;
 use std::{env, fs, io};
 use trdp_dataset::ConfigFault;
 use trdp_program::{
-    CONFIG_STATUS, ConfigFaultText, Ready, ScriptFaultText, ServiceOptions, check_program,
-    report_daemon, run_program, script_status, serve_with,
+    CONFIG_STATUS, ConfigFaultText, Ready, ScriptFaultText, check_program, report_daemon,
+    run_program, script_status, serve_with,
 };
 use trdp_script::ScriptFault;
 use version::{LOGIC, VERSION};
@@ -74,28 +74,33 @@ fn main(rt: HostRuntime) -> ExitCode {
 
 /// Reads the command line, does what it asks for, and returns the exit status.
 fn status(rt: &HostRuntime) -> u8 {
-    match given_words(rt) {
-        Ok(words) => match read_words(rt.alloc(), &words) {
-            Ok(Task::Check { path, folder }) => check_file(rt, path, folder),
-            Ok(Task::Run { path }) => run_file(rt, path),
-            Ok(
-                Task::Serve {
-                    path,
-                    options,
-                    turns,
-                },
-            ) => serve_file(rt, path, options, turns),
-            Ok(
-                Task::Daemon {
-                    path,
-                    options,
-                    seconds,
-                },
-            ) => attend_file(rt, path, options, seconds),
-            Err(error) if error.kind() == ErrorKind::DisplayVersion => tell_version(rt),
-            Err(error) => refuse(rt, &error, error.kind() == ErrorKind::OutOfMemory),
-        },
-        Err(error) => refuse(rt, NO_TEXT, error.kind() == io::ErrorKind::OutOfMemory),
+    let words = match given_words(rt) {
+        Ok(words) => words,
+        Err(error) => return refuse(rt, NO_TEXT, error.kind() == io::ErrorKind::OutOfMemory),
+    };
+    match read_words(rt.alloc(), &words) {
+        Ok(task) => follow(rt, &task),
+        Err(error) if error.kind() == ErrorKind::DisplayVersion => tell_version(rt),
+        Err(error) => refuse(rt, &error, error.kind() == ErrorKind::OutOfMemory),
+    }
+}
+
+/// Does what the command line asks for, and returns the exit status. Neither standard output nor
+/// standard error can make a daemon wait.
+fn follow(rt: &HostRuntime, task: &Task) -> u8 {
+    let Some(config) = read_file(rt, task) else {
+        return CONFIG_STATUS;
+    };
+    let options = task.options;
+    let (mut out, mut err) = (rt.stdout(), rt.stderr());
+    match task.work {
+        Work::Check => check_program(rt.alloc(), &config, options.folder, &mut out, &mut err),
+        Work::Run => run_program(rt, &config, &mut rt.stdin(), &mut out, &mut err),
+        Work::Serve(turns) => serve_with(rt, &config, options, turns, &mut out, &mut err),
+        Work::Daemon(seconds) => {
+            let (mut out, mut err) = (Ready::output(out), Ready::error(err));
+            report_daemon(rt, &config, options, seconds, &mut out, &mut err)
+        }
     }
 }
 
@@ -106,97 +111,24 @@ fn tell_version(rt: &impl Print) -> u8 {
     0
 }
 
-/// Says what the configuration of a file means, and returns the exit status.
-fn check_file(rt: &HostRuntime, path: &str, folder: Option<&str>) -> u8 {
-    match read_file_or_say_why(rt, path) {
-        Some(config) => check_program(
-            rt.alloc(),
-            &config,
-            folder,
-            &mut rt.stdout(),
-            &mut rt.stderr(),
-        ),
-        None => CONFIG_STATUS,
-    }
-}
-
-/// Runs the script at standard input over the configuration of a file, and returns the exit
-/// status.
-fn run_file(rt: &HostRuntime, path: &str) -> u8 {
-    match read_file(rt, path) {
-        Some(config) => run_program(
-            rt,
-            &config,
-            &mut rt.stdin(),
-            &mut rt.stdout(),
-            &mut rt.stderr(),
-        ),
-        None => CONFIG_STATUS,
-    }
-}
-
-/// Serves the configuration of a file for `turns` turns, and returns the exit status.
-fn serve_file(rt: &HostRuntime, path: &str, options: ServiceOptions, turns: u32) -> u8 {
-    match read_file(rt, path) {
-        Some(config) => serve_with(
-            rt,
-            &config,
-            options,
-            turns,
-            &mut rt.stdout(),
-            &mut rt.stderr(),
-        ),
-        None => CONFIG_STATUS,
-    }
-}
-
-/// Serves the configuration of a file until the program is stopped, and returns the exit status.
-/// Neither standard output nor standard error can make it wait.
-fn attend_file(rt: &HostRuntime, path: &str, options: ServiceOptions, seconds: u32) -> u8 {
-    match read_file_or_say_why(rt, path) {
-        Some(config) => report_daemon(
-            rt,
-            &config,
-            options,
-            seconds,
-            &mut Ready::output(rt.stdout()),
-            &mut Ready::error(rt.stderr()),
-        ),
-        None => CONFIG_STATUS,
-    }
-}
-
-/// Reads the configuration's file; None, and a line on standard error, where that fails.
-fn read_file(rt: &HostRuntime, path: &str) -> Option<Vec<u8>> {
+/// Reads the configuration's file; None where that fails, with a line on standard error and, for a
+/// check and a daemon, a second that says why.
+fn read_file(rt: &HostRuntime, task: &Task) -> Option<Vec<u8>> {
+    let path = task.path;
     match fs::read(rt, path) {
         Ok(config) => Some(config),
         Err(error) => {
-            tell_unread(rt, &error);
+            if error.kind() == io::ErrorKind::OutOfMemory {
+                tell(rt, ConfigFaultText(ConfigFault::OutOfMemory));
+            } else {
+                tell(rt, "config fault Unreadable");
+            }
+            if matches!(task.work, Work::Check | Work::Daemon(_)) {
+                // What standard error does with the text changes nothing.
+                let _ = eprintln!(rt; "{path}: {error}");
+            }
             None
         }
-    }
-}
-
-/// Reads the configuration's file; None, a line on standard error, and a second that says why,
-/// where that fails.
-fn read_file_or_say_why(rt: &HostRuntime, path: &str) -> Option<Vec<u8>> {
-    match fs::read(rt, path) {
-        Ok(config) => Some(config),
-        Err(error) => {
-            tell_unread(rt, &error);
-            // What standard error does with the text changes nothing.
-            let _ = eprintln!(rt; "{path}: {error}");
-            None
-        }
-    }
-}
-
-/// Prints in a line that a configuration's file can't be read.
-fn tell_unread(rt: &HostRuntime, error: &io::Error) {
-    if error.kind() == io::ErrorKind::OutOfMemory {
-        tell(rt, ConfigFaultText(ConfigFault::OutOfMemory));
-    } else {
-        tell(rt, "config fault Unreadable");
     }
 }
 
