@@ -76,23 +76,9 @@ impl<'a> Setup<'a> {
             None => text.push_str(", no control port")?,
         }
         if let Some(quotas) = self.config.quotas(usize::from(slot)) {
-            self.push_quotas(text, quotas)?;
+            push_quotas(text, quotas)?;
         }
         text.push_str("\n")
-    }
-
-    /// Adds the quotas of a slot.
-    ///
-    /// # Errors
-    /// `AllocError` where an allocation fails.
-    fn push_quotas(self, text: &mut String, quotas: Quotas) -> Result<(), AllocError> {
-        let mut mark = ":";
-        for (kind, name) in KINDS.iter().enumerate() {
-            let count = quotas.get(kind);
-            write!(text, "{mark} {count} {name}")?;
-            mark = ",";
-        }
-        Ok(())
     }
 
     /// Adds the line of the spare control ports, if there are any.
@@ -136,4 +122,18 @@ impl<'a> Setup<'a> {
         }
         Ok(())
     }
+}
+
+/// Adds the quotas of a slot.
+///
+/// # Errors
+/// `AllocError` where an allocation fails.
+fn push_quotas(text: &mut String, quotas: Quotas) -> Result<(), AllocError> {
+    let mut mark = ":";
+    for (kind, name) in KINDS.iter().enumerate() {
+        let count = quotas.get(kind);
+        write!(text, "{mark} {count} {name}")?;
+        mark = ",";
+    }
+    Ok(())
 }

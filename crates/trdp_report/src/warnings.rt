@@ -20,7 +20,7 @@ impl<'a> Setup<'a> {
     pub(crate) fn push_warnings(self, text: &mut String, alloc: Global) -> Result<(), AllocError> {
         let config = self.config;
         let ports = self.ports(alloc)?;
-        self.push_address(text, "address", shown(config.address()))?;
+        push_address(text, "address", shown(config.address()))?;
         if ports.iter().any(|it| it.takes_lines()) && self.folder.is_none() {
             self.push_control_address(text)?;
         }
@@ -30,42 +30,12 @@ impl<'a> Setup<'a> {
                  group, set its topology counters or add a slot\n",
             )?;
         }
-        self.push_collisions(text, &ports)?;
-        self.push_long_paths(text, alloc, &ports)?;
+        push_collisions(text, &ports)?;
+        push_long_paths(text, alloc, &ports)?;
         for slot in 0..config.slots() as u16 {
             self.push_useless_slot(text, slot)?;
         }
         self.push_long_datasets(text)
-    }
-
-    /// Adds a warning where an address is none of a device's own.
-    ///
-    /// # Errors
-    /// `AllocError` where an allocation fails.
-    fn push_address(
-        self,
-        text: &mut String,
-        key: &str,
-        address: Ipv4Addr,
-    ) -> Result<(), AllocError> {
-        let (kind, whom) = if address.is_unspecified() {
-            return writeln!(
-                text,
-                "warning: {key} is 0.0.0.0: its ports are at every interface, and a telegram \
-                 counts as sent to 0.0.0.0"
-            );
-        } else if address.is_multicast() {
-            ("group", "the group")
-        } else if address.is_broadcast() {
-            ("broadcast", "all")
-        } else {
-            return Ok(());
-        };
-        writeln!(
-            text,
-            "warning: {key} is the {kind} {address}: what is sent to {whom} alone comes in, and \
-             what goes out bears another address"
-        )
     }
 
     /// Adds a warning where the control ports are at an address that the network reaches.
@@ -79,7 +49,7 @@ impl<'a> Setup<'a> {
             return Ok(());
         }
         if config.control_address() != config.address() {
-            self.push_address(text, "control_address", address)?;
+            push_address(text, "control_address", address)?;
         }
         writeln!(
             text,
@@ -87,49 +57,6 @@ impl<'a> Setup<'a> {
              an empty one too, takes a slot's indications, and his lines are its calls, of which \
              `reset` ends all its objects; control_address = \"127.0.0.1\" keeps him out"
         )
-    }
-
-    /// Adds a warning for each port that is named before.
-    ///
-    /// # Errors
-    /// `AllocError` where an allocation fails.
-    fn push_collisions(self, text: &mut String, ports: &[NamedPort]) -> Result<(), AllocError> {
-        for (index, port) in ports.iter().enumerate() {
-            if let Some(first) = port.first_among(ports, index) {
-                write!(text, "warning: {first} and {port} both name ")?;
-                match first.site.shared_with(port.site) {
-                    Site::Udp(place) => {
-                        writeln!(text, "port {} at {}", place.port(), place.ip())?;
-                    }
-                    site => writeln!(text, "{site}")?,
-                }
-            }
-        }
-        Ok(())
-    }
-
-    /// Adds a warning for each path that is longer than the system accepts.
-    ///
-    /// # Errors
-    /// `AllocError` where an allocation fails.
-    fn push_long_paths(
-        self,
-        text: &mut String,
-        alloc: Global,
-        ports: &[NamedPort],
-    ) -> Result<(), AllocError> {
-        for port in ports.iter() {
-            let Site::File(folder, number) = port.site else {
-                continue;
-            };
-            if let Err(ListenFault::Refused) = socket_path(alloc, folder, number) {
-                writeln!(
-                    text,
-                    "warning: {folder}/{number} has more than 107 bytes: the system refuses it"
-                )?;
-            }
-        }
-        Ok(())
     }
 
     /// Adds a warning if no application can use a slot, and one if it can hold nothing.
@@ -171,4 +98,72 @@ impl<'a> Setup<'a> {
         }
         Ok(())
     }
+}
+
+/// Adds a warning where an address is none of a device's own.
+///
+/// # Errors
+/// `AllocError` where an allocation fails.
+fn push_address(text: &mut String, key: &str, address: Ipv4Addr) -> Result<(), AllocError> {
+    if address.is_unspecified() {
+        return writeln!(
+            text,
+            "warning: {key} is 0.0.0.0: its ports are at every interface, and a telegram counts as \
+             sent to 0.0.0.0"
+        );
+    }
+    let (kind, whom) = if address.is_multicast() {
+        ("group", "the group")
+    } else if address.is_broadcast() {
+        ("broadcast", "all")
+    } else {
+        return Ok(());
+    };
+    writeln!(
+        text,
+        "warning: {key} is the {kind} {address}: what is sent to {whom} alone comes in, and \
+         what goes out bears another address"
+    )
+}
+
+/// Adds a warning for each port that is named before.
+///
+/// # Errors
+/// `AllocError` where an allocation fails.
+fn push_collisions(text: &mut String, ports: &[NamedPort]) -> Result<(), AllocError> {
+    for (index, port) in ports.iter().enumerate() {
+        if let Some(first) = port.first_among(ports, index) {
+            write!(text, "warning: {first} and {port} both name ")?;
+            match first.site.shared_with(port.site) {
+                Site::Udp(place) => {
+                    writeln!(text, "port {} at {}", place.port(), place.ip())?;
+                }
+                site => writeln!(text, "{site}")?,
+            }
+        }
+    }
+    Ok(())
+}
+
+/// Adds a warning for each path that is longer than the system accepts.
+///
+/// # Errors
+/// `AllocError` where an allocation fails.
+fn push_long_paths(
+    text: &mut String,
+    alloc: Global,
+    ports: &[NamedPort],
+) -> Result<(), AllocError> {
+    for port in ports.iter() {
+        let Site::File(folder, number) = port.site else {
+            continue;
+        };
+        if let Err(ListenFault::Refused) = socket_path(alloc, folder, number) {
+            writeln!(
+                text,
+                "warning: {folder}/{number} has more than 107 bytes: the system refuses it"
+            )?;
+        }
+    }
+    Ok(())
 }
