@@ -19,20 +19,14 @@ pub(crate) struct Contact {
 pub(crate) fn contact_of(contacts: &[Option<Contact>], slot: u16) -> Option<Contact>
     ensures { result ≡ contact_of contacts.now slot }
 {
-    match contacts.get(usize::from(slot)) {
-        Some(contact) => *contact,
-        None => None,
-    }
+    *contacts.get(usize::from(slot))?
 }
 
 /// The latest line of a slot, if it had one, as if it had come in the turn of this reading.
 pub(crate) fn read_again(contact: Option<Contact>, reading: u64) -> Option<Contact>
     ensures { result ≡ option_map (read_again reading) contact }
 {
-    match contact {
-        Some(contact) => Some(Contact { reading, ..contact }),
-        None => None,
-    }
+    contact.map(|contact| Contact { reading, ..contact })
 }
 
 /// Sets the latest line of the slot of that number, if there is such a slot.

@@ -32,13 +32,7 @@ impl<W: Wire> Link<W> {
     {
         Link {
             wire,
-            totals: Totals {
-                taken: 0,
-                offered: 0,
-                lost: 0,
-                unread: 0,
-                memory: 0,
-            },
+            totals: Totals::default(),
             asked: 0,
         }
     }

@@ -108,10 +108,7 @@ impl Service {
     pub(crate) fn idle_time(&self, reading: u64, until: u64) -> u64
         ensures { IsIdleTime self.now.node.slots reading until result }
     {
-        let next = match self.node.next_due() {
-            Some(due) => due.min(until),
-            None => until,
-        };
+        let next = self.node.next_due().map_or(until, |due| due.min(until));
         next.saturating_sub(reading)
     }
 

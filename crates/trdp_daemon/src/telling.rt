@@ -74,10 +74,7 @@ fn tell_text<W: Wire>(
 fn place_of(contacts: &[Option<Contact>], slot: u16) -> Option<Place>
     ensures { result ≡ contact_place contacts.now slot }
 {
-    match contact_of(contacts, slot) {
-        Some(contact) => Some(contact.place),
-        None => None,
-    }
+    Some(contact_of(contacts, slot)?.place)
 }
 
 /// The port that telegrams of a protocol leave from.

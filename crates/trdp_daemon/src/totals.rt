@@ -1,7 +1,8 @@
 //! What a daemon counts.
 
-/// What a daemon has counted since it was made (profile). Each number stops at 2^64 - 1.
-#[derive(Clone, Copy, Debug, PartialEq, Eq)]
+/// What a daemon has counted since it was made (profile): at first nothing. Each number stops at
+/// 2^64 - 1.
+#[derive(Clone, Copy, Debug, Default, PartialEq, Eq)]
 pub struct Totals {
     /// How many datagrams came.
     pub taken: u64,
