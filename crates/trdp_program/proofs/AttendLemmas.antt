@@ -1,11 +1,11 @@
 -- The lines of totals that a daemon writes.
--- For `attend_over` and `attend_lines`.
+-- For `attend`, `attend_all_lines`, `attend_lines` and `report_daemon`.
 -- By a loop's invariant: the turns so far are those up to the latest line.
 use Rattle.std.proofs.Common.{◌≡◌, ◌+◌, ◌-◌, ◌^◌, ◌==◌, min, ℕ, suc, Bool, not, false, List, []}
 use Rattle.std.proofs.Common.{◌∷◌, ◌++◌, Option, refl, sym, ◌∙◌, ap, subst, arith}
 use Rattle.std.proofs.Common.{length, map, take}
 use Rattle.std.proofs.Common.{append_assoc, append-nil, Result, Ok, Err, IfErr, OnOk}
-use Rattle.std.proofs.Common.{IsErrAnd}
+use Rattle.std.proofs.Common.{IsErrAnd, inl, inr}
 use Rattle.trdp_dataset.specs.Configs.{ConfigModel}
 use Rattle.trdp_base.specs.Reported.{TellsMore}
 use Rattle.trdp_wire.specs.Told.{Taking, Give}
@@ -19,6 +19,11 @@ use Rattle.trdp_program.specs.Attending.{TotalsLine, turns_so_far, line_due, byt
 use Rattle.trdp_program.specs.Attending.{text_of_line}
 use Rattle.trdp_program.specs.Attending.{EndsWhenDue, ServesUntilDue, HasServedLines}
 use Rattle.trdp_program.specs.Attending.{WritesAllLines, WritesUpTo, WritesLinesOver, FailsOver}
+use Rattle.trdp_program.specs.Attending.{Attends, WritesLines}
+use Rattle.trdp_program.specs.Faults.{AppendsText, EndsService, serve_fault}
+use Rattle.trdp_wire.specs.declared.bind_fault.BindFault.{BindFault}
+use Rattle.trdp_wire.specs.declared.bind_fault.BindFault.TheVariants as bind
+use Rattle.std.proofs.KnownBytes.{Appends-kept}
 use Rattle.trdp_base.proofs.ReportedLemmas.{adds_none, adds_both}
 
 -- what a stream has by some attempts and one more
@@ -230,18 +235,42 @@ lines_up_to OutOfMemory p = record {
 }
 
 -- nothing was written before the first line
-pub early_end : (fault : ServeFault) (config : ConfigModel) (lease : Option ℕ) (step : ℕ)
-    (told : Option (List Attempt)) → (fault ≡ Write → ⊥) → WritesUpTo fault config lease step told
-    told
-early_end Bind config lease step told early = adds_none told
-early_end Write config lease step told early = absurd (early refl)
-early_end OutOfMemory config lease step told early = record {
+pub no_lines : (config : ConfigModel) (lease : Option ℕ) (step : ℕ) (told : Option (List Attempt))
+    → WritesLines config lease step told told
+no_lines config lease step told = record {
   lines = [];
   are_lines = tt;
   attempts = [];
   are_attempts = refl;
   told = adds_none told;
 }
+
+-- the same where a port or a path is refused
+pub early_end : (fault : BindFault) (config : ConfigModel) (lease : Option ℕ) (step : ℕ)
+    (told : Option (List Attempt)) → WritesUpTo (serve_fault fault) config lease step told told
+early_end bind.Bind config lease step told = adds_none told
+early_end bind.OutOfMemory config lease step told = no_lines config lease step told
+
+-- a daemon's service that ended, and the line of its fault
+pub attends_so : {config : ConfigModel} {lease : Option ℕ} {step status : ℕ}
+    (end : Result (Unit {0}) ServeFault) (old new : Option (List Attempt))
+    (errors before behind : Option (List ℕ)) → OnOk end (WritesAllLines config lease step old new)
+    → IfErr end (λ fault. WritesUpTo fault config lease step old new) → AppendsText errors before
+    → EndsService end before behind status
+    → Attends config lease step old new errors behind status
+attends_so (Ok done) old new errors before behind all up_to losses ends = inl (record {
+  status_is = ends.0;
+  written = all;
+  losses = (losses.0, Appends-kept errors before behind losses.0 losses.1 ends.1);
+})
+attends_so (Err fault) old new errors before behind all up_to losses ends = inr (record {
+  fault = fault;
+  status_is = ends.0;
+  written = up_to;
+  before = before;
+  losses = losses;
+  told = ends.1;
+})
 
 -- what holds of a fault holds of a result that has it
 pub when_err : {X : Type 0} (result : Result X ServeFault) (fault : ServeFault)

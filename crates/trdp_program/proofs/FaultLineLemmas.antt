@@ -1,5 +1,5 @@
 -- The line of a fault, on its way to the error stream.
--- For `tell_fault` and `tell_config_fault`.
+-- For `tell_line` and `tell_config_fault`.
 -- By: several writes append what they wrote together, whole or a front of it.
 use Rattle.std.proofs.Common.{◌≡◌, ℕ, List, [], ◌∷◌, ◌++◌, length, take, sym, ◌∙◌, ap, subst}
 use Rattle.std.proofs.Common.{arith, append_assoc, append-nil, true, Option, Some, None, IfSome}

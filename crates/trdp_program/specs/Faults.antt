@@ -1,5 +1,5 @@
 -- Why a run ends before the end of its script, and why a service ends with a fault.
-use Rattle.std.specs.Prelude.{ℕ, List, ◌++◌, codes, Option, Result, Ok, Err}
+use Rattle.std.specs.Prelude.{◌≡◌, ℕ, List, ◌++◌, codes, Option, Result, Ok, Err}
 use Rattle.std.specs.Io.KnownBytes.{Appends, Keeps}
 use Rattle.trdp_base.specs.NumberText.{text_of_number}
 use Rattle.trdp_text.specs.RecordText.{name_of_line_fault}
@@ -7,6 +7,8 @@ use Rattle.trdp_script.specs.Writes.{PartlyWrites}
 use Rattle.trdp_script.specs.declared.fault.ScriptFault.{ScriptFault}
 use Rattle.trdp_script.specs.declared.fault.ScriptFault.TheVariants.{Line, Read, Write}
 use Rattle.trdp_script.specs.declared.fault.ScriptFault.TheVariants.{OutOfMemory}
+use Rattle.trdp_wire.specs.declared.bind_fault.BindFault.{BindFault}
+use Rattle.trdp_wire.specs.declared.bind_fault.BindFault.TheVariants as bind
 use Rattle.trdp_program.specs.declared.faults.ServeFault.{ServeFault}
 use Rattle.trdp_program.specs.declared.faults.ServeFault.TheVariants as serve
 
@@ -50,3 +52,15 @@ abbrev pub text_of_serve_fault : ServeFault → List ℕ
 text_of_serve_fault serve.Bind = codes "bind fault"
 text_of_serve_fault serve.Write = codes "write fault"
 text_of_serve_fault serve.OutOfMemory = codes "memory fault"
+
+-- what it means to a service that a port or a path is refused
+abbrev pub serve_fault : BindFault → ServeFault
+serve_fault bind.Bind = serve.Bind
+serve_fault bind.OutOfMemory = serve.OutOfMemory
+
+-- a service ends so: the status is 0, and nothing is written; or it is 4, and its fault is
+abbrev pub EndsService : Result (Unit {0}) ServeFault → Option (List ℕ) → Option (List ℕ) → ℕ
+    → Type 0
+EndsService (Ok done) old new status = (status ≡ 0) × Keeps old new
+EndsService (Err fault) old new status =
+    (status ≡ 4) × TellsFault (text_of_serve_fault fault) old new

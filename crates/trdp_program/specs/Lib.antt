@@ -2,5 +2,6 @@ pub mod Attending
 pub mod Checking
 pub mod Faults
 pub mod Programs
+pub mod ServiceWires
 pub mod Serving
 pub mod Streams

@@ -8,7 +8,7 @@ use Rattle.trdp_daemon.specs.declared.totals.Totals.{Totals}
 use Rattle.trdp_wire.specs.Told.{Taking, Give}
 use Rattle.trdp_daemon.specs.Counted.{TurnsCounted}
 use Rattle.trdp_daemon.specs.Counting.{no_totals, totals_after}
-use Rattle.trdp_daemon.specs.Daemons.{DaemonState, TakesTurns, opened_daemon}
+use Rattle.trdp_daemon.specs.Daemons.{DaemonState, HasServed}
 use Rattle.trdp_wire.specs.Ports.{ports_of}
 use Rattle.trdp_daemon.specs.Questions.{text_of_totals}
 use Rattle.trdp_daemon.specs.Turns.{Turn, AllTakeAt, takings_of, turns_effect, opened_service}
@@ -44,60 +44,63 @@ pub record CountsTurns (config : ConfigModel) (lease : Option ℕ) (n : ℕ) (to
   pub count : length turns ≡ n
   pub are : AreTotals config lease turns gives totals
 
--- these are the totals of a daemon of that configuration and lease that has just been made, after
--- n turns over this wire and this clock, which report what they do by these functions
+-- these are the totals of a daemon of that configuration and lease that was made with this wire
+-- and this clock, which report what they do by these functions, after n turns
 pub record CountsTurnsOver {W C : Type 0} (takings_in : W → Option (List Taking))
     (gives_in : W → Option (List Give)) (readings_in : C → Option (List ℕ))
     (config : ConfigModel) (lease : Option ℕ) (wire : W) (clock : C) (n : ℕ) (totals : Totals)
     : Type 0 where
   pub daemon : DaemonState W C
-  pub took : TakesTurns takings_in gives_in readings_in n (opened_daemon config lease wire clock)
-      daemon
+  pub served : HasServed takings_in gives_in readings_in config lease wire clock n daemon
   pub totals_are : totals ≡ daemon.totals
 
 -- the line of these totals was written
 abbrev pub WritesTotals : Totals → Option (List ℕ) → Option (List ℕ) → Type 0
 WritesTotals totals old new = Appends old new (text_of_totals totals ++ codes "\n")
 
--- that line isn't written with this fault: where the output can't be written a front of it is
-abbrev pub FailsToWrite : ServeFault → Totals → Option (List ℕ) → Option (List ℕ) → Type 0
-FailsToWrite Bind totals old new = ⊥
-FailsToWrite OutOfMemory totals old new = Keeps old new
-FailsToWrite Write totals old new = PartlyWrites old new (text_of_totals totals ++ codes "\n")
-
--- the bytes are a configuration, whose node took n turns: the status is 0, the line of its totals
--- was written, and the error stream gets nothing
-pub record ServesConfig (bytes : List ℕ) (lease : Option ℕ) (n : ℕ)
-    (old new errors errors_then : Option (List ℕ))
+-- the line of totals of which this holds was written: the status is 0, and the error stream gets
+-- nothing
+pub record ServesToEnd (counts : Totals → Type 0) (old new errors errors_then : Option (List ℕ))
     (status : ℕ) : Type 0 where
-  pub config : ConfigModel
-  pub is : ReadsToml config_of bytes (Ok config)
   pub totals : Totals
-  pub counts : CountsTurns config lease n totals
+  pub counted : counts totals
   pub status_is : status ≡ 0
   pub written : WritesTotals totals old new
   pub faultless : Keeps errors errors_then
 
 -- what a service that ends with this fault has written: where the output can't be written a front
--- of the line of the totals of n turns, and else nothing
-abbrev pub WritesNoTotals : ServeFault → ConfigModel → Option ℕ → ℕ → Option (List ℕ)
-    → Option (List ℕ) → Type 0
-WritesNoTotals Bind config lease n old new = Keeps old new
-WritesNoTotals OutOfMemory config lease n old new = Keeps old new
-WritesNoTotals Write config lease n old new = (totals : Totals) × CountsTurns config lease n totals
+-- of the line of totals of which this holds, and else nothing
+abbrev pub WritesNoTotals : ServeFault → (Totals → Type 0) → Option (List ℕ) → Option (List ℕ)
+    → Type 0
+WritesNoTotals Bind counts old new = Keeps old new
+WritesNoTotals OutOfMemory counts old new = Keeps old new
+WritesNoTotals Write counts old new = (totals : Totals) × counts totals
     × PartlyWrites old new (text_of_totals totals ++ codes "\n")
 
--- the bytes are a configuration, but the line of its node's totals wasn't written, or only a front
--- of it: the status is 4, and the error stream gets the fault
-pub record FailsToServe (bytes : List ℕ) (lease : Option ℕ) (n : ℕ)
+-- the line of totals wasn't written, or only a front of it: the status is 4, and the error stream
+-- gets the fault
+pub record FailsToServe (counts : Totals → Type 0) (old new errors errors_then : Option (List ℕ))
+    (status : ℕ) : Type 0 where
+  pub fault : ServeFault
+  pub status_is : status ≡ 4
+  pub written : WritesNoTotals fault counts old new
+  pub told : TellsFault (text_of_serve_fault fault) errors errors_then
+
+-- a service of a node, by the totals of its turns: what the writer and the error stream had before
+-- and have after it, and the status
+abbrev pub ServesNode : (Totals → Type 0) → Option (List ℕ) → Option (List ℕ) → Option (List ℕ)
+    → Option (List ℕ) → ℕ → Type 0
+ServesNode counts old new errors errors_then status =
+    ServesToEnd counts old new errors errors_then status
+    ⊎ FailsToServe counts old new errors errors_then status
+
+-- the bytes are a configuration, whose node was served for n turns
+pub record ServesConfig (bytes : List ℕ) (lease : Option ℕ) (n : ℕ)
     (old new errors errors_then : Option (List ℕ))
     (status : ℕ) : Type 0 where
   pub config : ConfigModel
   pub is : ReadsToml config_of bytes (Ok config)
-  pub fault : ServeFault
-  pub status_is : status ≡ 4
-  pub written : WritesNoTotals fault config lease n old new
-  pub told : TellsFault (text_of_serve_fault fault) errors errors_then
+  pub serves : ServesNode (CountsTurns config lease n) old new errors errors_then status
 
 -- n turns over these bytes of a configuration, with this lease: what the writer and the error
 -- stream had before and have after them, and the status
@@ -106,4 +109,3 @@ abbrev pub ServesProgram : List ℕ → Option ℕ → ℕ → Option (List ℕ)
 ServesProgram bytes lease n old new errors errors_then status =
     TakesNoConfig bytes old new errors errors_then status
     ⊎ ServesConfig bytes lease n old new errors errors_then status
-    ⊎ FailsToServe bytes lease n old new errors errors_then status

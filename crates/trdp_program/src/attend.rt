@@ -1,20 +1,19 @@
 //! The daemon: first the sockets, and then turns with rests between them.
 
-ghost use Rattle.std.specs.Prelude.{◌≡◌, ◌^◌, ◌-◌, OnOk, IfErr, Bool, ℕ, Option};
+ghost use Rattle.std.specs.Prelude.{◌≡◌, ◌^◌, ◌-◌, OnOk, IfOk, IfErr, Bool, ℕ, Option};
 ghost use Rattle.trdp_dataset.specs.Configs.{ConfigModel};
 ghost use Rattle.trdp_daemon.specs.Daemons.{HasServed};
-ghost use Rattle.trdp_program.specs.Attending.{Attends, FailsOver, ServesUntilDue, totals_period};
+ghost use Rattle.trdp_program.specs.Attending.{FailsOver, ServesUntilDue, totals_period};
 ghost use Rattle.trdp_program.specs.Attending.{WritesAllLines, WritesLinesOver, WritesUpTo};
 ghost use Rattle.trdp_program.specs.Faults.{AppendsText};
 ghost use Rattle.trdp_program.specs.Serving.{lease_of};
 
-use crate::faults::{SERVE_FAULT_STATUS, ServeFault};
+use crate::faults::ServeFault;
 use crate::options::ServiceOptions;
 use crate::reports::Reports;
 use crate::stream::Stream;
-use crate::told::tell_fault;
 use crate::totals_log::TotalsLog;
-use crate::wires::{bind_resting, bind_resting_controls};
+use crate::wires::{ServiceWire, folder_at, ports_beside, wire_over};
 use std::alloc::Global;
 use std::fs::Files;
 use std::io::Write;
@@ -22,37 +21,15 @@ use std::net::Net;
 use std::time::Clock;
 use trdp_daemon::Daemon;
 use trdp_dataset::NodeConfig;
-use trdp_udp::RunClock;
+use trdp_udp::{RestingWire, RunClock, SystemSockets};
 use trdp_wire::WatchedWire;
 
-/// Serves a node of a configuration until the program is stopped, and returns the exit status: 4
-/// after a fault, which gives one line on `errors`, and 0 after 2^64 - 1 lines of totals.
-pub(crate) fn attend_config<H: Files + Net + Clock + AllocGlobal, W: Stream, E: Write>(
-    rt: &H,
-    config: NodeConfig,
-    options: ServiceOptions,
-    seconds: u32,
-    writer: &mut W,
-    errors: &mut E,
-) -> u8
-    ensures { Attends config (lease_of options.entry.lease) (totals_period seconds)
-        (W.attempts writer.old) (W.attempts writer.new)
-        (E.contents errors.old) (E.contents errors.new) result }
-{
-    match attend(rt, config, options, seconds, writer, errors) {
-        Ok(()) => 0,
-        Err(fault) => {
-            tell_fault(fault, errors);
-            SERVE_FAULT_STATUS
-        }
-    }
-}
-
-/// Binds the ports of a configuration, and attends to its node.
+/// Binds the ports of a configuration, and serves its node until the program is stopped: a line of
+/// its totals comes each so many seconds.
 ///
 /// # Errors
-/// `Bind` where the system refuses a port, and `OutOfMemory`.
-fn attend<H: Files + Net + Clock + AllocGlobal, W: Stream, E: Write>(
+/// `Bind` where the system refuses a port or a path, and `OutOfMemory`.
+pub(crate) fn attend<H: Files + Net + Clock + AllocGlobal, W: Stream, E: Write>(
     rt: &H,
     config: NodeConfig,
     options: ServiceOptions,
@@ -67,43 +44,49 @@ fn attend<H: Files + Net + Clock + AllocGlobal, W: Stream, E: Write>(
         (totals_period seconds) (W.attempts writer.old) (W.attempts writer.new)) }
     ensures losses { AppendsText (E.contents errors.old) (E.contents errors.new) }
 {
+    let alloc = rt.alloc();
+    let folder = folder_at(rt, options.folder);
+    let sockets = SystemSockets::new(rt);
+    let ports = ports_beside(&folder);
+    let network = RestingWire::open(alloc, sockets, RunClock::new(rt), &config, ports);
+    let wire = wire_over(alloc, network, folder, &config)?;
     let lease = options.lease_time();
-    let step = step_of(seconds);
     let clock = RunClock::new(rt);
-    match options.folder {
-        None => {
-            let wire = bind_resting(rt, &config)?;
-            attend_over(rt.alloc(), config, lease, wire, clock, step, writer, errors)
+    match wire {
+        ServiceWire::Udp(wire) => {
+            let daemon = Daemon::with_lease(alloc, config, lease, wire, clock);
+            attend_all_lines(alloc, daemon, step_of(seconds), writer, errors)
         }
-        Some(folder) => {
-            let wire = bind_resting_controls(rt, &config, folder)?;
-            attend_over(rt.alloc(), config, lease, wire, clock, step, writer, errors)
+        ServiceWire::Controls(wire) => {
+            let daemon = Daemon::with_lease(alloc, config, lease, wire, clock);
+            attend_all_lines(alloc, daemon, step_of(seconds), writer, errors)
         }
     }
 }
 
-/// Opens a node of a configuration over a wire and a clock, with a lease, and attends to it: a
-/// line of its totals comes after each step, in microseconds.
+/// Attends to the node of a daemon, if it was opened, until as many lines of totals were offered as
+/// can be counted.
 ///
 /// # Errors
 /// `OutOfMemory`.
-fn attend_over<L: WatchedWire + Drop, C: trdp_wire::Clock + Drop, W: Stream, E: Write>(
+fn attend_all_lines<L: WatchedWire + Drop, K: trdp_wire::Clock + Drop, W: Stream, E: Write>(
     alloc: Global,
-    config: NodeConfig,
-    lease: Option<u64>,
-    wire: L,
-    clock: C,
+    daemon: Result<Daemon<L, K>, (NodeConfig, L, K)>,
     step: u64,
     writer: &mut W,
     errors: &mut E,
 ) -> Result<(), ServeFault>
-    ensures ok { OnOk result (WritesAllLines config lease step
+    ensures ok { (config : ConfigModel) (lease : Option ℕ) (wire : L) (clock : K)
+        → IfOk daemon (HasServed L.takings L.gives K.readings config lease wire clock 0)
+        → OnOk result (WritesAllLines config lease step
         (W.attempts writer.old) (W.attempts writer.new)) }
-    ensures err { IfErr result (λ fault. WritesUpTo fault config lease step
+    ensures err { (config : ConfigModel) (lease : Option ℕ) (wire : L) (clock : K)
+        → IfOk daemon (HasServed L.takings L.gives K.readings config lease wire clock 0)
+        → IfErr result (λ fault. WritesUpTo fault config lease step
         (W.attempts writer.old) (W.attempts writer.new)) }
     ensures losses { AppendsText (E.contents errors.old) (E.contents errors.new) }
 {
-    match Daemon::with_lease(alloc, config, lease, wire, clock) {
+    match daemon {
         Ok(mut daemon) => attend_lines(alloc, &mut daemon, step, u64::MAX, writer, errors),
         Err(_) => Err(ServeFault::OutOfMemory),
     }

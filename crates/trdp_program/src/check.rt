@@ -6,9 +6,9 @@ ghost use Rattle.trdp_program.specs.Checking.{ChecksProgram};
 ghost use Rattle.trdp_program.specs.Faults.{AppendsText};
 ghost use Rattle.trdp_program.specs.Programs.{IsConfig};
 
-use crate::faults::{SERVE_FAULT_STATUS, ServeFault};
+use crate::faults::ServeFault;
 use crate::program::CONFIG_STATUS;
-use crate::told::{tell_config_fault, tell_fault};
+use crate::told::{end_status, tell_config_fault};
 use std::alloc::Global;
 use std::io::Write;
 use trdp_dataset::NodeConfig;
@@ -34,13 +34,7 @@ pub fn check_program<W: Write, E: Write>(
     ensures faultless { result ≡ 0 → Keeps (E.contents errors.old) (E.contents errors.new) }
 {
     match NodeConfig::from_toml(alloc, config) {
-        Ok(taken) => match write_report(alloc, config, &taken, folder, writer) {
-            Ok(()) => 0,
-            Err(fault) => {
-                tell_fault(fault, errors);
-                SERVE_FAULT_STATUS
-            }
-        },
+        Ok(taken) => end_status(write_report(alloc, config, &taken, folder, writer), errors),
         Err(fault) => {
             tell_config_fault(alloc, config, fault, errors);
             CONFIG_STATUS

@@ -6,11 +6,11 @@ ghost use Rattle.trdp_program.specs.Faults.{AppendsText};
 ghost use Rattle.trdp_program.specs.Programs.{IsConfig};
 ghost use Rattle.trdp_program.specs.Serving.{lease_of};
 
-use crate::attend::attend_config;
+use crate::attend::attend;
 use crate::options::ServiceOptions;
 use crate::program::CONFIG_STATUS;
 use crate::stream::Stream;
-use crate::told::{tell_config_fault, tell_text};
+use crate::told::{end_status, tell_config_fault, tell_text};
 use std::alloc::AllocError;
 use std::fs::Files;
 use std::io::Write;
@@ -57,7 +57,7 @@ pub fn report_daemon<H: Files + Net + Clock + AllocGlobal, W: Stream, E: Write>(
     match NodeConfig::from_toml(alloc, config) {
         Ok(taken) => {
             tell_text(first_words(rt, config, &taken, options.folder), errors);
-            let status = attend_config(rt, taken, options, seconds, writer, errors);
+            let status = end_status(attend(rt, taken, options, seconds, writer, errors), errors);
             tell_ports(rt, config, options.folder, status, errors);
             status
         }

@@ -6,6 +6,7 @@ ghost use Rattle.trdp_program.specs.Faults.{status_of_script};
 use std::fmt;
 use trdp_script::ScriptFault;
 use trdp_text::line_fault_name;
+use trdp_wire::BindFault;
 
 /// A script's fault as the program prints it (profile): `line N fault NAME`, or `read fault`,
 /// `write fault` or `memory fault`. Printing it allocates nothing.
@@ -42,9 +43,6 @@ pub fn script_status(end: Result<(), ScriptFault>) -> u8
     }
 }
 
-/// The exit status of a service that ends with a fault (profile).
-pub(crate) const SERVE_FAULT_STATUS: u8 = 4;
-
 /// Why a service ends with a fault. As the program prints it (profile) it is `bind fault`, `write
 /// fault` or `memory fault`; printing it allocates nothing.
 #[derive(Clone, Copy, Debug, PartialEq, Eq)]
@@ -55,6 +53,20 @@ pub enum ServeFault {
     Write,
     /// An allocation fails.
     OutOfMemory,
+}
+
+impl From<BindFault> for ServeFault {
+    ghost use Rattle.std.specs.Prelude.{◌≡◌};
+    ghost use Rattle.trdp_program.specs.Faults.{serve_fault};
+
+    ghost from_gives = { λ fault result. result ≡ serve_fault fault };
+
+    fn from(fault: BindFault) -> ServeFault {
+        match fault {
+            BindFault::Bind => ServeFault::Bind,
+            BindFault::OutOfMemory => ServeFault::OutOfMemory,
+        }
+    }
 }
 
 impl fmt::Display for ServeFault {

@@ -35,11 +35,20 @@
 //! line before. Over a wire and a clock that report, these are the turns that they report
 //! ([`attend_lines`]).
 //!
-//! **Tested**: which folder has the control sockets, or whether there are UDP ports instead; that a
-//! bind was refused before a `bind fault`; the words on `errors`, of which a text that is left out,
-//! or another in its place, breaks no contract; and what the system says to a write. [`Ready`] asks
-//! it before each one whether it would wait, and is tested over pipes and devices that are full or
-//! gone.
+//! Of the wire of a service it is proved (`wire_over` in `wires`): without a folder all ports that
+//! the configuration names have sockets. Beside a folder only those of the network have, and lines
+//! come in at the files of that folder. There is no wire only if the network's was refused, or if
+//! the folder refused a file. `UdpWire::open` and `RestingWire::open` of `trdp_udp` are refused
+//! only if the sockets refuse a call. A `bind fault` is such a refusal (`ServeFault::from`).
+//!
+//! **Tested**: the words on `errors`, of which a text that is left out, or another in its place,
+//! breaks no contract; and what the system says to a write. [`Ready`] asks it before each one
+//! whether it would wait, and is tested over pipes and devices that are full or gone.
+//!
+//! **Trusted**, and tested over daemons: [`serve_with`] and [`report_daemon`] open their wire over
+//! the system's sockets with the folder of their options, serve the node over that wire, and write
+//! `bind fault` only if it was refused. Each of these is one call. The system's sockets and folder
+//! report nothing, so no clause can say it.
 #![tactic(auto)]
 
 mod attend;

@@ -8,7 +8,7 @@ ghost use Rattle.trdp_program.specs.Faults.{TellsFault};
 ghost use Rattle.trdp_program.specs.Programs.{IsConfig, IsConfigFault, RunsProgram};
 
 use crate::faults::{ScriptFaultText, script_status};
-use crate::told::tell_fault;
+use crate::told::tell_line;
 use std::alloc::Global;
 use std::io::{Read, Write};
 use trdp_dataset::{ConfigFault, NodeConfig};
@@ -45,7 +45,7 @@ pub fn run_program<H: AllocGlobal, R: Read, W: Write, E: Write>(
     };
     let end = run_script(alloc, config, reader, writer);
     if let Err(fault) = end {
-        tell_fault(ScriptFaultText(fault), errors);
+        tell_line(ScriptFaultText(fault), errors);
     }
     script_status(end)
 }
@@ -68,7 +68,7 @@ pub(crate) fn read_config<E: Write>(
     match NodeConfig::from_toml(alloc, config) {
         Ok(taken) => Ok(taken),
         Err(fault) => {
-            tell_fault(ConfigFaultText(fault), errors);
+            tell_line(ConfigFaultText(fault), errors);
             Err(fault)
         }
     }

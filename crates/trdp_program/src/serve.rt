@@ -1,17 +1,17 @@
 //! A service of the program: the configuration first, then the sockets, and then the turns.
 
-ghost use Rattle.std.specs.Prelude.{◌≡◌, ◌⊎◌, IfOk, IfErr, OnOk, None};
+ghost use Rattle.std.specs.Prelude.{◌≡◌, ◌⊎◌, IfOk, Option, None, ℕ};
 ghost use Rattle.std.specs.Io.KnownBytes.{Keeps};
+ghost use Rattle.trdp_dataset.specs.Configs.{ConfigModel};
+ghost use Rattle.trdp_daemon.specs.Daemons.{HasServed};
 ghost use Rattle.trdp_program.specs.Programs.{IsConfig};
-ghost use Rattle.trdp_program.specs.Serving.{CountsTurns, CountsTurnsOver, FailsToWrite};
-ghost use Rattle.trdp_program.specs.Serving.{ServesProgram, WritesNoTotals, WritesTotals, lease_of};
+ghost use Rattle.trdp_program.specs.Serving.{CountsTurnsOver, ServesNode, ServesProgram, lease_of};
 
-use crate::faults::{SERVE_FAULT_STATUS, ServeFault};
+use crate::faults::ServeFault;
 use crate::options::ServiceOptions;
 use crate::program::{CONFIG_STATUS, read_config};
-use crate::told::tell_fault;
-use crate::wires::{bind, bind_controls};
-use std::alloc::Global;
+use crate::told::{end_status, tell_line};
+use crate::wires::{ServiceWire, folder_at, ports_beside, wire_over};
 use std::fmt;
 use std::fs::Files;
 use std::io::Write;
@@ -19,8 +19,7 @@ use std::net::Net;
 use std::time::Clock;
 use trdp_daemon::{Daemon, Totals};
 use trdp_dataset::NodeConfig;
-use trdp_script::write_whole;
-use trdp_udp::RunClock;
+use trdp_udp::{RunClock, SystemSockets, UdpWire};
 use trdp_wire::Wire;
 
 /// Serves a node of that configuration (TOML) over the system's sockets: binds its UDP ports,
@@ -49,12 +48,12 @@ pub fn serve_program<H: Net + Clock + AllocGlobal, W: Write, E: Write>(
     let Ok(config) = read_config(rt.alloc(), config, errors) else {
         return CONFIG_STATUS;
     };
-    match serve(rt, config, None, turns, writer) {
-        Ok(()) => 0,
-        Err(fault) => {
-            tell_fault(fault, errors);
-            SERVE_FAULT_STATUS
+    match UdpWire::bind(rt, &config) {
+        Ok(wire) => {
+            let daemon = Daemon::new(rt.alloc(), config, wire, RunClock::new(rt));
+            serve_turns(daemon, turns, writer, errors)
         }
+        Err(fault) => end_status(Err(ServeFault::from(fault)), errors),
     }
 }
 
@@ -76,165 +75,53 @@ pub fn serve_with<H: Files + Net + Clock + AllocGlobal, W: Write, E: Write>(
     ensures quiet { result ≡ 1 → Keeps (W.contents writer.old) (W.contents writer.new) }
     ensures faultless { result ≡ 0 → Keeps (E.contents errors.old) (E.contents errors.new) }
 {
-    let Ok(config) = read_config(rt.alloc(), config, errors) else {
+    let alloc = rt.alloc();
+    let Ok(config) = read_config(alloc, config, errors) else {
         return CONFIG_STATUS;
     };
-    match serve_options(rt, config, options, turns, writer) {
-        Ok(()) => 0,
-        Err(fault) => {
-            tell_fault(fault, errors);
-            SERVE_FAULT_STATUS
-        }
-    }
-}
-
-/// Binds the ports of a configuration as the options say, takes `turns` turns at them, and writes
-/// the line of their totals.
-///
-/// # Errors
-/// `Bind` where the system refuses a port, `Write` where the writer fails, and `OutOfMemory`.
-fn serve_options<H: Files + Net + Clock + AllocGlobal, W: Write>(
-    rt: &H,
-    config: NodeConfig,
-    options: ServiceOptions,
-    turns: u32,
-    writer: &mut W,
-) -> Result<(), ServeFault>
-    ensures ok { OnOk result ((totals : Totals)
-        × CountsTurns config (lease_of options.entry.lease) turns totals
-        × WritesTotals totals (W.contents writer.old) (W.contents writer.new)) }
-    ensures err { IfErr result (λ fault. WritesNoTotals fault config
-        (lease_of options.entry.lease) turns (W.contents writer.old) (W.contents writer.new)) }
-{
+    let folder = folder_at(rt, options.folder);
+    let network = UdpWire::open(SystemSockets::new(rt), &config, ports_beside(&folder));
+    let wire = wire_over(alloc, network, folder, &config);
     let lease = options.lease_time();
-    match options.folder {
-        None => serve(rt, config, lease, turns, writer),
-        Some(folder) => serve_controls(rt, config, folder, lease, turns, writer),
+    let clock = RunClock::new(rt);
+    match wire {
+        Ok(ServiceWire::Udp(wire)) => {
+            let daemon = Daemon::with_lease(alloc, config, lease, wire, clock);
+            serve_turns(daemon, turns, writer, errors)
+        }
+        Ok(ServiceWire::Controls(wire)) => {
+            let daemon = Daemon::with_lease(alloc, config, lease, wire, clock);
+            serve_turns(daemon, turns, writer, errors)
+        }
+        Err(fault) => end_status(Err(ServeFault::from(fault)), errors),
     }
 }
 
-/// Binds the UDP ports of a configuration, takes `turns` turns at them, with a lease, and writes
-/// the line of their totals.
-///
-/// # Errors
-/// `Bind` where the system refuses a port, `Write` where the writer fails, and `OutOfMemory`.
-fn serve<H: Net + Clock + AllocGlobal, W: Write>(
-    rt: &H,
-    config: NodeConfig,
-    lease: Option<u64>,
+/// Takes `turns` turns at a daemon, if it was opened, writes the line of their totals, and returns
+/// the exit status. The totals are those of the turns that the wire and the clock report, where
+/// they report. The system's sockets and clock report nothing, so that of them only the number of
+/// turns is left.
+fn serve_turns<L: Wire + Drop, K: trdp_wire::Clock + Drop, W: Write, E: Write>(
+    daemon: Result<Daemon<L, K>, (NodeConfig, L, K)>,
     turns: u32,
     writer: &mut W,
-) -> Result<(), ServeFault>
-    ensures ok { OnOk result ((totals : Totals) × CountsTurns config lease turns totals
-        × WritesTotals totals (W.contents writer.old) (W.contents writer.new)) }
-    ensures err { IfErr result (λ fault. WritesNoTotals fault config lease turns
-        (W.contents writer.old) (W.contents writer.new)) }
+    errors: &mut E,
+) -> u8
+    ensures status { (result ≡ 0) ⊎ (result ≡ 4) }
+    ensures serves { (config : ConfigModel) (lease : Option ℕ) (wire : L) (clock : K)
+        → IfOk daemon (HasServed L.takings L.gives K.readings config lease wire clock 0)
+        → ServesNode (CountsTurnsOver L.takings L.gives K.readings config lease wire clock turns)
+        (W.contents writer.old) (W.contents writer.new)
+        (E.contents errors.old) (E.contents errors.new) result }
+    ensures faultless { result ≡ 0 → Keeps (E.contents errors.old) (E.contents errors.new) }
 {
-    let wire = bind(rt, &config)?;
-    serve_at(
-        rt.alloc(),
-        config,
-        lease,
-        wire,
-        RunClock::new(rt),
-        turns,
-        writer,
-    )
-}
-
-/// The same, where the ports for lines are files of a folder.
-///
-/// # Errors
-/// As [`serve`].
-fn serve_controls<H: Files + Net + Clock + AllocGlobal, W: Write>(
-    rt: &H,
-    config: NodeConfig,
-    folder: &str,
-    lease: Option<u64>,
-    turns: u32,
-    writer: &mut W,
-) -> Result<(), ServeFault>
-    ensures ok { OnOk result ((totals : Totals) × CountsTurns config lease turns totals
-        × WritesTotals totals (W.contents writer.old) (W.contents writer.new)) }
-    ensures err { IfErr result (λ fault. WritesNoTotals fault config lease turns
-        (W.contents writer.old) (W.contents writer.new)) }
-{
-    let wire = bind_controls(rt, &config, folder)?;
-    serve_at(
-        rt.alloc(),
-        config,
-        lease,
-        wire,
-        RunClock::new(rt),
-        turns,
-        writer,
-    )
-}
-
-/// Opens a node of a configuration over a wire and a clock, with a lease, takes `turns` turns, and
-/// writes the line of their totals.
-///
-/// # Errors
-/// `Write` where the writer fails, and `OutOfMemory`.
-fn serve_at<L: Wire + Drop, C: trdp_wire::Clock + Drop, W: Write>(
-    alloc: Global,
-    config: NodeConfig,
-    lease: Option<u64>,
-    wire: L,
-    clock: C,
-    turns: u32,
-    writer: &mut W,
-) -> Result<(), ServeFault>
-    ensures ok { OnOk result ((totals : Totals) × CountsTurns config lease turns totals
-        × WritesTotals totals (W.contents writer.old) (W.contents writer.new)) }
-    ensures err { IfErr result (λ fault. WritesNoTotals fault config lease turns
-        (W.contents writer.old) (W.contents writer.new)) }
-{
-    let totals = serve_over(alloc, config, lease, wire, clock, turns)?;
-    write_totals(alloc, totals, writer)
-}
-
-/// Opens a node of a configuration over a wire and a clock, with a lease, and takes `turns` turns.
-/// Returns their totals: those of the turns that the wire and the clock report, where they report.
-/// The system's sockets and clock report nothing, so that of them only the number of turns is
-/// left.
-///
-/// # Errors
-/// `OutOfMemory`.
-fn serve_over<L: Wire + Drop, C: trdp_wire::Clock + Drop>(
-    alloc: Global,
-    config: NodeConfig,
-    lease: Option<u64>,
-    wire: L,
-    clock: C,
-    turns: u32,
-) -> Result<Totals, ServeFault>
-    ensures ok { IfOk result
-        (CountsTurnsOver L.takings L.gives C.readings config lease wire clock turns) }
-    ensures err { IfErr result (λ fault. fault ≡ ServeFault.OutOfMemory) }
-{
-    match Daemon::with_lease(alloc, config, lease, wire, clock) {
-        Ok(mut daemon) => Ok(daemon.run(turns)),
-        Err(_) => Err(ServeFault::OutOfMemory),
-    }
-}
-
-/// Writes the line of totals.
-///
-/// # Errors
-/// `Write` where the writer fails, and `OutOfMemory`.
-fn write_totals<W: Write>(alloc: Global, totals: Totals, writer: &mut W) -> Result<(), ServeFault>
-    ensures ok { OnOk result (WritesTotals totals (W.contents writer.old) (W.contents writer.new)) }
-    ensures err { IfErr result (λ fault. FailsToWrite fault totals
-        (W.contents writer.old) (W.contents writer.new)) }
-{
-    let Ok(line) = format!(in alloc; "{}\n", TotalsText(totals)) else {
-        return Err(ServeFault::OutOfMemory);
+    let Ok(mut daemon) = daemon else {
+        return end_status(Err(ServeFault::OutOfMemory), errors);
     };
-    match write_whole(writer, line.as_bytes()) {
-        Ok(()) => Ok(()),
-        Err(_) => Err(ServeFault::Write),
+    if tell_line(TotalsText(daemon.run(turns)), writer) {
+        return 0;
     }
+    end_status(Err(ServeFault::Write), errors)
 }
 
 /// The totals of a service as the program prints them (profile): `taken T offered O lost L unread
@@ -249,16 +136,11 @@ impl fmt::Display for TotalsText {
     ghost output = { λ text. Some (text_of_totals text.0) };
 
     fn fmt<W: fmt::Write>(&self, f: &mut fmt::Formatter<W>) -> fmt::Result {
-        let Totals {
-            taken,
-            offered,
-            lost,
-            unread,
-            memory,
-        } = self.0;
+        let all = self.0;
         write!(
             f,
-            "taken {taken} offered {offered} lost {lost} unread {unread} memory {memory}"
+            "taken {} offered {} lost {} unread {} memory {}",
+            all.taken, all.offered, all.lost, all.unread, all.memory
         )
     }
 }

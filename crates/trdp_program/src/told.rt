@@ -1,10 +1,12 @@
 //! What is written to the error stream.
 
-ghost use Rattle.std.specs.Prelude.{◌≡◌, ◌++◌, true, codes, IfSome};
-ghost use Rattle.std.specs.Io.KnownBytes.{Appends};
+ghost use Rattle.std.specs.Prelude.{◌≡◌, ◌⊎◌, ◌++◌, true, codes, IfSome};
+ghost use Rattle.std.specs.Io.KnownBytes.{Appends, Keeps};
 ghost use Rattle.trdp_text.specs.ConfigNames.{text_of_config_fault};
 ghost use Rattle.trdp_program.specs.Faults.{TellsFault, TellsFaultFirst, AppendsText};
+ghost use Rattle.trdp_program.specs.Faults.{EndsService};
 
+use crate::faults::ServeFault;
 use std::alloc::{AllocError, Global};
 use std::fmt::{Display, InlineText, Write as _};
 use std::io::Write;
@@ -13,22 +15,38 @@ use trdp_report::fault_place;
 use trdp_script::write_whole;
 use trdp_text::ConfigFaultText;
 
-/// Room for the line of a fault, in bytes: more than the longest.
-const FAULT_ROOM: usize = 128;
+/// Room for a line, in bytes: more than the longest, that of totals.
+const LINE_ROOM: usize = 160;
 
-/// Writes a fault in one line, which allocates nothing, and returns whether the whole line was
-/// written. The fault is one also where its line can't be written, or only in part.
-pub(crate) fn tell_fault<F: Display + Drop, E: Write>(fault: F, errors: &mut E) -> bool
-    ensures told { IfSome (F.output fault) (λ text.
-        TellsFault text (E.contents errors.old) (E.contents errors.new)) }
-    ensures whole { result ≡ true → IfSome (F.output fault) (λ text.
-        Appends (E.contents errors.old) (E.contents errors.new) (text ++ codes "\n")) }
+/// Writes a fault or totals in one line, which allocates nothing, and returns whether the whole
+/// line was written. A fault is one also where its line can't be written, or only in part.
+pub(crate) fn tell_line<D: Display + Drop, W: Write>(text: D, writer: &mut W) -> bool
+    ensures told { IfSome (D.output text) (λ text.
+        TellsFault text (W.contents writer.old) (W.contents writer.new)) }
+    ensures whole { result ≡ true → IfSome (D.output text) (λ text.
+        Appends (W.contents writer.old) (W.contents writer.new) (text ++ codes "\n")) }
 {
-    let mut line = InlineText::<FAULT_ROOM>::new();
-    if writeln!(line, "{fault}").is_ok() {
-        write_whole(errors, line.as_str().as_bytes()).is_ok()
+    let mut line = InlineText::<LINE_ROOM>::new();
+    if writeln!(line, "{text}").is_ok() {
+        write_whole(writer, line.as_str().as_bytes()).is_ok()
     } else {
         false
+    }
+}
+
+/// The exit status of a service or of a check that ends so: 0, and 4 after a fault (profile),
+/// which gives one line on `errors`.
+pub(crate) fn end_status<E: Write>(end: Result<(), ServeFault>, errors: &mut E) -> u8
+    ensures status { (result ≡ 0) ⊎ (result ≡ 4) }
+    ensures ends { EndsService end (E.contents errors.old) (E.contents errors.new) result }
+    ensures faultless { result ≡ 0 → Keeps (E.contents errors.old) (E.contents errors.new) }
+{
+    match end {
+        Ok(()) => 0,
+        Err(fault) => {
+            tell_line(fault, errors);
+            4
+        }
     }
 }
 
@@ -42,7 +60,7 @@ pub(crate) fn tell_config_fault<E: Write>(
     ensures { TellsFaultFirst (text_of_config_fault fault)
         (E.contents errors.old) (E.contents errors.new) }
 {
-    if tell_fault(ConfigFaultText(fault), errors) {
+    if tell_line(ConfigFaultText(fault), errors) {
         tell_text(fault_place(alloc, config, fault), errors);
     }
 }

@@ -1,152 +1,124 @@
-//! The wires of a service: UDP ports alone, or those of the network and a folder of control
+//! The wire of a service: UDP ports alone, or those of the network and a folder of control
 //! sockets.
 
-ghost use Rattle.std.specs.Prelude.{◌≡◌, ◌≢◌, IfOk, IfErr};
+ghost use Rattle.std.specs.Prelude.{◌≡◌, IfOk, IfErr};
+ghost use Rattle.std.specs.Option.{option_map};
+ghost use Rattle.trdp_program.specs.ServiceWires.{IsBeside, IsRefusedBeside, ports_beside};
 
-use crate::faults::ServeFault;
 use mio::Registry;
+use std::alloc::Global;
 use std::fs::Files;
 use std::io;
 use std::net::Net;
-use std::time::Clock;
-use trdp_controls::{ControlWire, Folder, ListenFault, SystemConnections, SystemFolder};
+use trdp_controls::{ControlWire, Folder, ListenFault, SystemFolder};
 use trdp_dataset::NodeConfig;
-use trdp_udp::{BoundPorts, RestingWire, RunClock, SystemSockets, UdpWire};
-use trdp_wire::{BindFault, WatchedWire};
+use trdp_lines::Connections;
+use trdp_udp::{BoundPorts, RestingWire, SharedWaits, UdpWire};
+use trdp_wire::{BindFault, Sleeper, Sockets, WatchedWire};
 
-/// The UDP ports of a service.
-type Udp<'a, H> = UdpWire<SystemSockets<'a, H>>;
+/// The wire of a service.
+#[derive(Drop)]
+pub(crate) enum ServiceWire<N: WatchedWire, C: Connections> {
+    /// All ports are UDP ports.
+    Udp(N),
+    /// Lines come in at the paths of a folder.
+    Controls(ControlWire<N, C>),
+}
 
-/// The UDP ports of a service that rests.
-type Resting<'a, H> = RestingWire<SystemSockets<'a, H>, RunClock<'a, H>>;
+/// The wire of a network, at the ports of which some have sockets.
+pub(crate) trait NetworkWire: WatchedWire {
+    ghost use Rattle.std.specs.Prelude.{IfErr};
+    ghost use Rattle.trdp_udp.specs.declared.bound_ports.BoundPorts.{BoundPorts};
+    ghost use Rattle.trdp_wire.specs.declared.bind_fault.BindFault.{BindFault};
 
-/// Binds the ports of a configuration.
-///
-/// # Errors
-/// `Bind` where the system refuses a port, and `OutOfMemory`.
-pub(crate) fn bind<'a, H: Net + AllocGlobal>(
-    rt: &'a H,
-    config: &NodeConfig,
-) -> Result<Udp<'a, H>, ServeFault>
-    ensures bound { IfOk result (λ wire. wire.bound ≡ BoundPorts.All) }
-    ensures fault { IfErr result (λ fault. fault ≢ ServeFault.Write) }
-{
-    match UdpWire::bind(rt, config) {
-        Ok(wire) => Ok(wire),
-        Err(fault) => Err(bind_fault(fault)),
+    /// Which ports of a configuration have sockets.
+    ghost bound: { Self → BoundPorts };
+
+    /// Whether it has refused a registry with this fault.
+    ghost refuses: { Self → BindFault → Type 0 };
+
+    /// Where the system is asked to end a rest for something else too; None where this wire never
+    /// waits.
+    ///
+    /// # Errors
+    /// `OutOfMemory` where the system is out of memory for it, and else `Bind`.
+    fn path_registry(&self) -> Result<Option<Registry>, BindFault>
+        ensures { IfErr result (refuses self.now) };
+}
+
+impl<S: Sockets> NetworkWire for UdpWire<S> {
+    ghost bound = { λ wire. wire.bound };
+
+    ghost refuses = { λ _ _. ⊥ };
+
+    fn path_registry(&self) -> Result<Option<Registry>, BindFault> {
+        Ok(None)
     }
 }
 
-/// Binds the ports of a configuration for a daemon that rests.
-///
-/// # Errors
-/// As [`bind`].
-pub(crate) fn bind_resting<'a, H: Net + Clock + AllocGlobal>(
-    rt: &'a H,
-    config: &NodeConfig,
-) -> Result<Resting<'a, H>, ServeFault>
-    ensures bound { IfOk result (λ wire. wire.wire.bound ≡ BoundPorts.All) }
-    ensures fault { IfErr result (λ fault. fault ≢ ServeFault.Write) }
-{
-    open_resting(rt, config, BoundPorts::All)
-}
+impl<S: Sockets + SharedWaits, K: Sleeper + Drop> NetworkWire for RestingWire<S, K> {
+    ghost bound = { λ wire. wire.wire.bound };
 
-/// Binds the network's ports of a configuration, and listens at the paths of the others in a
-/// folder.
-///
-/// # Errors
-/// `Bind` where the system refuses a port or a path, and `OutOfMemory`.
-pub(crate) fn bind_controls<'a, H: Files + Net + AllocGlobal>(
-    rt: &'a H,
-    config: &NodeConfig,
-    folder: &'a str,
-) -> Result<ControlWire<Udp<'a, H>, SystemConnections<'a, H>>, ServeFault>
-    ensures bound { IfOk result (λ wire. wire.network.bound ≡ BoundPorts.Network) }
-    ensures fault { IfErr result (λ fault. fault ≢ ServeFault.Write) }
-{
-    match UdpWire::open(SystemSockets::new(rt), config, BoundPorts::Network) {
-        Ok(network) => listen(rt, config, folder, network, None),
-        Err((fault, _)) => Err(bind_fault(fault)),
+    ghost refuses = { λ _ _. Unit {0} };
+
+    fn path_registry(&self) -> Result<Option<Registry>, BindFault> {
+        match self.registry() {
+            Ok(registry) => Ok(registry),
+            Err(error) if error.kind() == io::ErrorKind::OutOfMemory => Err(BindFault::OutOfMemory),
+            Err(_) => Err(BindFault::Bind),
+        }
     }
 }
 
-/// The same for a daemon that rests: a rest ends when something comes at a path, too.
+/// The folder of the system at a path, if there is one.
+pub(crate) fn folder_at<'a, H: Files + Net + AllocGlobal>(
+    rt: &'a H,
+    path: Option<&'a str>,
+) -> Option<SystemFolder<'a, H>>
+    ensures { option_map (λ folder. folder.path.now) result
+        ≡ option_map (λ path. path.now) path.entry }
+{
+    Some(SystemFolder::new(rt, rt.alloc(), path?))
+}
+
+/// Which ports of a configuration have sockets where there may be a folder of control sockets.
+pub(crate) fn ports_beside<F>(folder: &Option<F>) -> BoundPorts
+    ensures { result ≡ ports_beside folder.now }
+{
+    match folder {
+        Some(_) => BoundPorts::Network,
+        None => BoundPorts::All,
+    }
+}
+
+/// The wire of a service over that of its network, if this was opened: beside a folder it listens
+/// there at the paths of a configuration.
 ///
 /// # Errors
-/// As [`bind_controls`].
-pub(crate) fn bind_resting_controls<'a, H: Files + Net + Clock + AllocGlobal>(
-    rt: &'a H,
+/// The network's fault. `Bind` where the folder refuses a path or the network a registry, and
+/// `OutOfMemory`.
+pub(crate) fn wire_over<N: NetworkWire + Drop, S: Drop, C: Connections + Drop, F: Folder<C> + Drop>(
+    alloc: Global,
+    network: Result<N, (BindFault, S)>,
+    folder: Option<F>,
     config: &NodeConfig,
-    folder: &'a str,
-) -> Result<ControlWire<Resting<'a, H>, SystemConnections<'a, H>>, ServeFault>
-    ensures bound { IfOk result (λ wire. wire.network.wire.bound ≡ BoundPorts.Network) }
-    ensures fault { IfErr result (λ fault. fault ≢ ServeFault.Write) }
+) -> Result<ServiceWire<N, C>, BindFault>
+    requires bound { IfOk network (λ network. N.bound network ≡ ports_beside folder) }
+    ensures beside { IfOk result (IsBeside N.bound F.path F.file_of config.now network folder) }
+    ensures refused { IfErr result
+        (IsRefusedBeside N.refuses F.listenings config.now network folder) }
 {
-    let network = open_resting(rt, config, BoundPorts::Network)?;
-    match network.registry() {
-        Ok(registry) => listen(rt, config, folder, network, registry),
-        Err(error) => Err(registry_fault(error)),
-    }
-}
-
-/// Binds these ports of a configuration for a daemon that rests.
-///
-/// # Errors
-/// As [`bind`].
-fn open_resting<'a, H: Net + Clock + AllocGlobal>(
-    rt: &'a H,
-    config: &NodeConfig,
-    which: BoundPorts,
-) -> Result<Resting<'a, H>, ServeFault>
-    ensures bound { IfOk result (λ wire. wire.wire.bound ≡ which) }
-    ensures fault { IfErr result (λ fault. fault ≢ ServeFault.Write) }
-{
-    let sockets = SystemSockets::new(rt);
-    match RestingWire::open(rt.alloc(), sockets, RunClock::new(rt), config, which) {
-        Ok(wire) => Ok(wire),
-        Err((fault, _)) => Err(bind_fault(fault)),
-    }
-}
-
-/// Listens at the paths of a configuration in a folder, over a network.
-///
-/// # Errors
-/// As [`bind_controls`].
-fn listen<'a, H: Files + Net + AllocGlobal, N: WatchedWire + Drop>(
-    rt: &'a H,
-    config: &NodeConfig,
-    folder: &'a str,
-    network: N,
-    registry: Option<Registry>,
-) -> Result<ControlWire<N, SystemConnections<'a, H>>, ServeFault>
-    ensures network { IfOk result (λ wire. wire.network ≡ network) }
-    ensures fault { IfErr result (λ fault. fault ≢ ServeFault.Write) }
-{
-    let mut folder = SystemFolder::new(rt, rt.alloc(), folder);
-    folder.report_to(registry);
-    match ControlWire::open(rt.alloc(), &mut folder, network, config) {
-        Ok(wire) => Ok(wire),
-        Err(ListenFault::Refused) => Err(ServeFault::Bind),
-        Err(ListenFault::OutOfMemory) => Err(ServeFault::OutOfMemory),
-    }
-}
-
-/// The fault of a service whose ports aren't bound.
-fn bind_fault(fault: BindFault) -> ServeFault
-    ensures { result ≢ ServeFault.Write }
-{
-    match fault {
-        BindFault::Bind => ServeFault::Bind,
-        BindFault::OutOfMemory => ServeFault::OutOfMemory,
-    }
-}
-
-/// The fault of a service where the system doesn't end its rests for its paths.
-fn registry_fault(error: io::Error) -> ServeFault
-    ensures { result ≢ ServeFault.Write }
-{
-    match error.kind() {
-        io::ErrorKind::OutOfMemory => ServeFault::OutOfMemory,
-        _ => ServeFault::Bind,
+    let network = match network {
+        Ok(network) => network,
+        Err((fault, _)) => return Err(fault),
+    };
+    let Some(mut folder) = folder else {
+        return Ok(ServiceWire::Udp(network));
+    };
+    folder.report_to(network.path_registry()?);
+    match ControlWire::open(alloc, &mut folder, network, config) {
+        Ok(wire) => Ok(ServiceWire::Controls(wire)),
+        Err(ListenFault::Refused) => Err(BindFault::Bind),
+        Err(ListenFault::OutOfMemory) => Err(BindFault::OutOfMemory),
     }
 }

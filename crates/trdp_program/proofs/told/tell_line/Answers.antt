@@ -1,10 +1,10 @@
 use Rattle.std.proofs.Common.{sym, ◌∙◌}
 use Rattle.trdp_program.proofs.FaultLineLemmas.{told, told_whole}
-use Rattle.trdp_program.proofs.told.tell_fault.Goals as goal
+use Rattle.trdp_program.proofs.told.tell_line.Goals as goal
 
 pub returns-then-is_ok-clause-told : goal.returns-then-is_ok-clause-told
 returns-then-is_ok-clause-told g c =
-    told (g.F.Display.output c.args.fault) c.new-line.result c.writeln.new.self
+    told (g.D.Display.output c.args.text) c.new-line.result c.writeln.new.self
     c.writeln.result c.write_whole.result _ _ c.as_bytes.result.now
     c.new-line.ensures.text c.new-line.ensures.intact
     (sym c.is_ok.ensures.value ∙ c.if-is_ok.true) c.writeln.ensures.writes
@@ -13,7 +13,7 @@ returns-then-is_ok-clause-told g c =
 
 pub returns-then-is_ok-clause-whole : goal.returns-then-is_ok-clause-whole
 returns-then-is_ok-clause-whole g c = λ whole.
-    told_whole (g.F.Display.output c.args.fault) c.new-line.result c.writeln.new.self
+    told_whole (g.D.Display.output c.args.text) c.new-line.result c.writeln.new.self
     c.writeln.result c.write_whole.result _ _ c.as_bytes.result.now
     c.new-line.ensures.text c.new-line.ensures.intact
     (sym c.is_ok.ensures.value ∙ c.if-is_ok.true) c.writeln.ensures.writes
