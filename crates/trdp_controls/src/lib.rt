@@ -31,12 +31,13 @@
 //! **Proved**, for any network, folder and connections: which files are listened at, in which
 //! folder and in which order; what a take and a give at a port do on either side. A take at the
 //! control port of a slot is one at the path of that slot and at no other, and the place that a line
-//! comes from is the number of its connection. The news of a path end where a take there neither
-//! heard anything nor failed, and at no other path. A rest of the wire is one of the network, of no
-//! time where a path heard something since the rest before.
+//! comes from is the number of its connection. The news of a path end only where a take there
+//! neither heard anything nor failed; those of other paths stay. A rest of the wire is one of the
+//! network, of no time if a path heard something since the rest before.
 //!
-//! **Tested** over daemons: by which number the system reports, that the files that are gone are
-//! named, and with which of the system's errors a take or a give fails.
+//! **Tested** over daemons: that news end, as a network may keep none; by which number the system
+//! reports; that the files that are gone are named; and with which of the system's errors a take or
+//! a give fails.
 //!
 //! **Trusted**: the system. Each call here is one of the system's, with bounds and a reading of
 //! its answer.
