@@ -29,12 +29,12 @@ returns-clause-serves g c = λ config lease wire clock served.
     let opened = rw c.in-Ok.is at served in
     inr (record {
       fault = Write;
-      status_is = c.end_status.ensures.ends.0;
+      status_is = c.end_status-2.ensures.ends.0;
       written = (
         c.run.result,
         counted_over c.args.turns c.run.result
             (c.run.ensures.served config lease wire clock 0 opened) c.run.ensures.totals,
         c.tell_line.ensures.told,
       );
-      told = c.end_status.ensures.ends.1;
+      told = c.end_status-2.ensures.ends.1;
     })
