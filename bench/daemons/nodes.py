@@ -27,7 +27,7 @@ CLOCK_OF = 2                                      # Linux: the clock of a proces
 SET_PDEATHSIG = 1                                 # Linux, prctl: the signal that comes when the parent ends
 SET_TIMERSLACK = 29                               # Linux, prctl: how late a sleep may end
 SLACK = 1_000                                     # nanoseconds: TimerSlackNSec= of the unit
-PRIORITY = 10                                     # under SCHED_FIFO, as docs/DAEMON.md says
+PRIORITY = 10                                     # under SCHED_FIFO, as docs/SUPERVISION.md says
 LIBC = ctypes.CDLL(None)
 PROCESSORS = sorted(os.sched_getaffinity(0), reverse=True)
 
