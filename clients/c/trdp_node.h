@@ -1,6 +1,6 @@
 /* A node of the Train Real-time Data Protocol as a library: C99, and C++11 or later. It has no
- * socket, no clock, no thread and no global state. The program hands in one event at a time, in
- * numbers or as a line of a script, and sends what the node answers.
+ * socket, no clock, no thread and no global state. The program passes one event at a time, in
+ * numbers or as a line of a script, and sends the telegrams that the node returns.
  *
  *     struct trdp_node node = TRDP_NODE_NONE;
  *     struct trdp_node_fault fault;
@@ -84,7 +84,7 @@ enum trdp_node_status {
     TRDP_NODE_PAST = 2,
     TRDP_NODE_TOO_LATE = 3,
     TRDP_NODE_NO_GROUP = 4,
-    TRDP_NODE_OUT_OF_MEMORY = 5, /* the event, line or configuration may be handed in again */
+    TRDP_NODE_OUT_OF_MEMORY = 5, /* the event, line or configuration may be passed again */
     TRDP_NODE_SLOTS_FULL = 6,
 
     /* The line has no event. */
@@ -94,7 +94,7 @@ enum trdp_node_status {
     TRDP_NODE_LINE_BAD_WORD = 14,
 
     /* The node processed the event, and there is no memory for the text of its records. The records
-     * are there, and trdp_node_text tries again. Don't hand in the line again. */
+     * are there, and trdp_node_text tries again. Don't pass the line again. */
     TRDP_NODE_TEXT_LOST = 20,
 
     TRDP_NODE_NO_EVENT = 21,   /* `what` of the event is none of TRDP_NODE_MOMENT .. */
@@ -167,8 +167,8 @@ struct trdp_node_event {
     uint8_t group;          /* a redundancy group, 0 for none */
     uint8_t leader;         /* flag: the node leads the group from now on */
     uint8_t keep;           /* flag: the value stays when the subscription falls silent */
-    uint8_t any;            /* flag: the listener hears every comId, whatever com_id says */
-    uint8_t expected;       /* how many places are to answer, 1 to 8; 0 for any */
+    uint8_t any;            /* flag: the listener receives every comId, whatever com_id says */
+    uint8_t expected;       /* how many socket addresses are expected to answer, 1 to 8; 0 for any */
     uint8_t retries;        /* how often the request is sent again at most, 0 to 2 */
     uint8_t session[TRDP_NODE_SESSION];
     uint8_t source_uri[TRDP_NODE_URI];
@@ -271,7 +271,7 @@ struct trdp_node_text {
     uint32_t status;  /* what the function returns too */
 };
 
-/* What a node tells of itself. */
+/* The state of a node. */
 struct trdp_node_state {
     uint64_t now;      /* its latest moment */
     uint64_t next_due; /* the next moment by which something is due; UINT64_MAX for none */
@@ -307,13 +307,13 @@ uint32_t trdp_node_raw_refusal_name(uint32_t refusal, struct trdp_node_name *nam
 uint32_t trdp_node_raw_fault_name(uint32_t fault, struct trdp_node_name *name);
 uint32_t trdp_node_raw_reason_name(uint32_t reason, struct trdp_node_name *name);
 
-/* For a test of this header: what the library takes for the sizes of the structs and the numbers
- * above, and where it finds the fields. */
+/* For a test of this header: which sizes of the structs and which numbers the library has, and
+ * where it finds the fields. */
 
 /* The number of that index; UINT64_MAX past the last. Index 0 to 6 are the sizes of the structs
- * event, record, done, text, state, fault and name, 7 to 11 the numbers of the first enum, and then
- * come those of the enums trdp_node_status, trdp_node_what, trdp_node_record_what, trdp_node_value,
- * trdp_node_refusal, trdp_node_reason and trdp_node_message, each in its order. */
+ * event, record, done, text, state, fault and name, 7 to 11 the numbers of the first enum. Then come
+ * the numbers of the enums trdp_node_status, trdp_node_what, trdp_node_record_what,
+ * trdp_node_value, trdp_node_refusal, trdp_node_reason and trdp_node_message, each in its order. */
 uint64_t trdp_node_layout(size_t index);
 /* The field of that index, from 0, in the order of struct trdp_node_event, each number of an array
  * by itself; UINT64_MAX past the last. Status is read as an unsigned number. */
@@ -324,7 +324,7 @@ void trdp_node_layout_results(struct trdp_node_record *record, struct trdp_node_
                               struct trdp_node_text *text, struct trdp_node_state *state,
                               struct trdp_node_fault *fault, struct trdp_node_name *name);
 
-/* A node. Nobody but the functions below looks into it. Don't copy it. */
+/* A node. Only the functions below look into it. Don't copy it. */
 struct trdp_node {
     void *at;             /* where the library has the node; NULL while it isn't open */
     uintptr_t bytes;      /* the records' bytes that are borrowed: from here .. */
@@ -340,7 +340,7 @@ struct trdp_node {
 #define TRDP_NODE_NONE { NULL, 0, 0, 0, 0 }
 #endif
 
-/* Whether bytes of the caller can be handed to a node: NULL only if there are none. */
+/* Whether bytes of the caller can be passed to a node: NULL only if there are none. */
 static inline int trdp_node_can_be(const void *bytes, size_t length) {
     return length <= PTRDIFF_MAX && (bytes || !length);
 }
@@ -445,7 +445,7 @@ static inline enum trdp_node_status trdp_node_text(struct trdp_node *node,
     return trdp_node_lend(node, text);
 }
 
-/* Tells what moment it is for the node, when something is due next, and how many slots it has. */
+/* Writes what moment it is for the node, when something is due next, and how many slots it has. */
 static inline enum trdp_node_status trdp_node_state(const struct trdp_node *node,
                                                     struct trdp_node_state *state) {
     if (!node || !node->at) return TRDP_NODE_NO_NODE;

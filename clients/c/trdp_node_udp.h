@@ -43,12 +43,12 @@ enum {
     TRDP_NODE_UDP_PD = 17224,   /* the port of process data */
     TRDP_NODE_UDP_MD = 17225,   /* the port of message data */
     TRDP_NODE_UDP_GROUPS = 16,  /* how many groups a device can join */
-    TRDP_NODE_UDP_TTL = 64,     /* over how many links a telegram to a group goes at most */
+    TRDP_NODE_UDP_TTL = 64,     /* how many links a telegram to a group may cross at most */
     TRDP_NODE_UDP_BYTES = 65507 /* the longest datagram */
 };
 
-/* The sockets: 0 and 1 at the device's own address, the next two at that of its first group, and so
- * on. Those of process data have even indexes, those of message data odd ones. */
+/* The sockets: 0 and 1 at the device's own address, the next two at the address of its first group,
+ * and so on. Sockets of process data have even indexes, sockets of message data odd ones. */
 struct trdp_node_udp {
     struct pollfd sockets[2 + 2 * TRDP_NODE_UDP_GROUPS];
     uint32_t addresses[1 + TRDP_NODE_UDP_GROUPS]; /* of the sockets 2 i and 2 i + 1 */

@@ -1,5 +1,5 @@
 /* The calls of an application at the control port of trdpd, a node of the Train Real-time Data
- * Protocol, and those of its operator: C99 and POSIX, one header, no allocation, no thread, no
+ * Protocol, and the operator's calls: C99 and POSIX, one header, no allocation, no thread, no
  * global state. It compiles as C++11 and later too.
  *
  *     static char line[512], text[TRDP_SLOT_TEXT_ROOM];
@@ -15,21 +15,22 @@
  *
  *     enum trdp_slot_error error = trdp_slot_open_path(&slot, "/run/trdpd/18000", &terms);
  *
- * Where it is compiled with -std=c99 it comes before the system's headers, or _DEFAULT_SOURCE is
- * defined: else the system hides its clock. docs/SCRIPT.md says what each call means, with all its
- * words, and docs/DAEMON.md what a control port and a control socket are. Addresses and ports are
- * in host order, times of calls in microseconds, waits and the lease in milliseconds. A slot is for
- * one thread at a time.
+ * With -std=c99 include this before the system's headers, or define _DEFAULT_SOURCE: otherwise the
+ * system hides its clock. docs/SCRIPT.md says what each call means, with all its words, and
+ * docs/DAEMON.md what a control port and a control socket are. Addresses and ports are in host
+ * order, times of calls in microseconds, waits and the lease in milliseconds. A slot is for one
+ * thread at a time.
  *
- * Every function answers an enum trdp_slot_error, and TRDP_SLOT_OK where it did what it says.
+ * Each call, and each function that opens a slot, returns an enum trdp_slot_error: TRDP_SLOT_OK if
+ * it did what it says.
  *
- * A CLEAN START. A program that makes objects calls trdp_slot_reset before, and again whenever it
- * learns that its objects are gone: nothing of an earlier program, or of half a try, is left then.
- * No other function does that, so that one that only looks disturbs no objects.
+ * A CLEAN START. A program that makes objects calls trdp_slot_reset first, and again whenever it
+ * learns that its objects are gone: then nothing is left of an earlier program, or of a try that
+ * was only half done. No other function does that, so a program that only looks disturbs no objects.
  *
  * LOST ANSWERS. A call waits `timeout` milliseconds for its answer. Over UDP it then sends the same
- * line again, `tries` times in all. The node may have taken the line all the same, where it was the
- * answer that got lost or comes late. Then a second try is a second call:
+ * line again, `tries` times in all. If only the answer got lost or is late, the node has taken the
+ * line all the same. Then a second try is a second call:
  *
  *     put, get, reset, topology,     the same again: no harm
  *     role, totals, slots
@@ -40,23 +41,24 @@
  *     request                        refused SessionOpen; the caller's handle stays unknown until
  *                                    `replied` or `closed` has it
  *     query                          refused State
- *     confirm                        refused State, or NoHandle where the caller is over
+ *     confirm                        refused State, or NoHandle if the caller is over
  *     reply, replyerror, abort,      refused NoHandle, as the object is over
  *     unpublish, unsubscribe,
  *     closepull, unlisten
  *
  * With `tries` 1 none of these happens, and TRDP_SLOT_TIMEOUT says that it isn't known whether the
- * call took effect. `timeout`, `tries` may be changed between two calls; `tried` of the slot says
- * how often the line of the latest call was sent. At a control socket a line is sent once, and
- * `tries` times `timeout` is how long its answer is waited for.
+ * call took effect. `timeout` and `tries` may be changed between two calls; `tried` of the slot says
+ * how often the line of the latest call was sent. At a control socket a line is sent once, and the
+ * call waits `tries` times `timeout` for its answer.
  *
- * WHICH ANSWER IS WHOSE. Answers have no number. Before each call what is there is taken: answers
- * are dropped and counted in `stale`, indications are kept. Behind a call whose answer didn't come,
- * or that was sent more than once, the next one first sends a *mark*, a line that can't be read and
- * does nothing, and waits for its answer: by then all earlier answers have come that come at all.
- * Where that doesn't come either the call answers TIMEOUT, with `tried` 0: it wasn't sent. So where
- * the way keeps the order, as within a machine, no answer is taken for that to another call, but
- * for one that the way brings twice, which the one within a machine doesn't.
+ * WHICH ANSWER IS WHOSE. Answers have no number. Before each call the client reads what is there:
+ * it drops answers and counts them in `stale`, and keeps indications. After a call whose answer
+ * didn't come, or that was sent more than once, the next call first sends a *mark*, a line that
+ * can't be read and does nothing, and waits for its answer: by then every earlier answer that will
+ * ever come has come. If the mark's answer doesn't come either, the call returns TIMEOUT with
+ * `tried` 0: it wasn't sent. So if the network keeps the order, as within a machine, no answer is
+ * taken for the answer to another call, unless the network brings an answer twice, which it does
+ * not do within a machine.
  *
  * WHOSE PORT IT IS. The first call of a slot begins with a question, the line `get 0`. No object
  * has the handle 0, so that line changes no object, and its refusal begins with the number of the
@@ -70,33 +72,33 @@
  * even after a connection has ended. The operator's calls and trdp_slot_next ask nothing.
  *
  * OBJECTS THAT ARE GONE. A daemon that was started again has no objects, and refuses handles that
- * it once gave; so does one whose lease for this slot has run out. TRDP_SLOT_REFUSED_NO_HANDLE of
- * a handle that should be there says that all objects are to be made again. (At a second try it
- * may also say that the first one took effect.) Over UDP indications alone don't say so, so an
- * application that only waits for them calls `get` now and then: then the indications also come
- * here again. At a control socket the end of the connection says so, once, by TRDP_SLOT_RESTARTED,
- * whether a call or trdp_slot_next finds it. The next call connects again. While the daemon is
- * gone that answers TRDP_SLOT_NOBODY, or TRDP_SLOT_SYSTEM with EACCES while the path isn't this
- * application's yet; TRDP_SLOT_BUSY where another application came before. What was kept of the
- * connection is dropped, and counted as lost.
+ * it gave before. So does a daemon after its lease for this slot has run out.
+ * TRDP_SLOT_REFUSED_NO_HANDLE of a handle that should be there means that all objects have to be
+ * made again. (At a second try it may also mean that the first one took effect.) Over UDP
+ * indications don't show this, so an application that only waits for them calls `get` now and then:
+ * then the indications also come here again. At a control socket the end of the connection shows
+ * it, once, by TRDP_SLOT_RESTARTED, whether a call or trdp_slot_next finds it. The next call
+ * connects again. It returns TRDP_SLOT_NOBODY while the daemon is gone, TRDP_SLOT_SYSTEM with
+ * EACCES while the path isn't this application's yet, and TRDP_SLOT_BUSY if another application
+ * came before. What was kept of the connection is dropped, and counted as lost.
  *
- * INDICATIONS THAT COME WHILE AN ANSWER IS AWAITED are kept in the caller's `kept`, and
- * trdp_slot_next returns them in their order. One that finds no room there, or is longer than
- * `text`, is dropped and counted, and the next trdp_slot_next answers TRDP_SLOT_LOST and how many.
- * On Linux it does the same for datagrams that the system dropped because the socket's buffer was
- * full, once another one comes. At a control socket the daemon says how many texts it dropped, and
- * trdp_slot_next reports that in their place. What the daemon couldn't send over UDP, no one
- * learns (docs/DAEMON.md).
+ * INDICATIONS THAT COME WHILE A CALL WAITS are kept in the caller's `kept`, and trdp_slot_next
+ * returns them in their order. An indication that finds no room there, or is longer than `text`, is
+ * dropped and counted, and the next trdp_slot_next returns TRDP_SLOT_LOST and how many. On Linux it
+ * does the same for datagrams that the system dropped because the socket's buffer was full, once
+ * another datagram comes. At a control socket the daemon says how many texts it dropped, and
+ * trdp_slot_next reports that in their place. What the daemon couldn't send over UDP isn't reported
+ * here (docs/DAEMON.md).
  *
- * A LEASE. Where the daemon has one, `lease` of the terms says how long it is. The slot then says a
+ * A LEASE. If the daemon has one, `lease` of the terms says how long it is. The slot then sends a
  * remark, `#`, whenever a third of it has passed since its latest line, in a call that waits and in
- * trdp_slot_next. There is no thread for it: a program that hangs says nothing, and loses its
- * objects, as it should. One that computes for longer than that calls trdp_slot_next with a wait of
- * 0 meanwhile.
+ * trdp_slot_next. No thread does that: a program that hangs sends nothing, and loses its objects,
+ * as it should. A program that computes for longer than the lease calls trdp_slot_next with a wait
+ * of 0 meanwhile.
  *
- * FORK AND EXEC. The socket closes where this program becomes another one. A child of `fork` that
- * keeps it keeps the slot's application alive; it calls trdp_slot_close, which ends its own copy
- * alone, and nothing else of the slot. */
+ * FORK AND EXEC. The socket closes when this program becomes another one. A child of `fork` that
+ * keeps it keeps the slot's application alive; it calls trdp_slot_close, which ends only its own
+ * copy, and nothing else of the slot. */
 #ifndef TRDP_SLOT_H
 #define TRDP_SLOT_H
 
@@ -160,7 +162,7 @@ enum trdp_slot_error {
     TRDP_SLOT_ARGUMENT,
     /* The line is longer than `line_room` or a datagram. Nothing was sent. */
     TRDP_SLOT_LONG,
-    /* The bytes are more than the room that was handed in; the first of them are there. */
+    /* The bytes are more than the room that was given; the first of them are there. */
     TRDP_SLOT_CUT,
     /* Indications were lost, or answers; `lost` says how many. */
     TRDP_SLOT_LOST,
@@ -230,22 +232,22 @@ struct trdp_slot_terms {
     size_t text_room; /* the same, and at least TRDP_SLOT_TEXT_ROOM */
     uint8_t *kept;    /* for indications that come while an answer is awaited */
     size_t kept_room; /* their bytes and four for each; with 0 each is lost, and counted */
-    uint32_t lease;   /* the daemon's lease, in milliseconds; 0 where it has none */
+    uint32_t lease;   /* the daemon's lease, in milliseconds; 0 if it has none */
 };
 
-/* An application's end of a control port. Read its counts; change `timeout`, `tries` and `lease`
- * alone. */
+/* An application's end of a control port. Read its counts; change only `timeout`, `tries` and
+ * `lease`. */
 struct trdp_slot {
     struct trdp_slot_terms terms;
-    int socket;         /* for a poll of one's own; -1 where there is no connection */
-    size_t kept_length; /* how much of `kept` is in use; 0 where no indication is kept */
+    int socket;         /* for a poll of one's own; -1 if there is no connection */
+    size_t kept_length; /* how much of `kept` is in use; 0 if no indication is kept */
     uint32_t tried;     /* how often the line of the latest call was sent */
     uint32_t lost;      /* indications that were lost and aren't reported yet */
     uint32_t stale;     /* answers that belonged to no call that waited */
     uint32_t strange;   /* texts that this header can't read */
     uint32_t dropped;   /* the system's count of datagrams that it dropped */
 
-    /* What the functions below alone look at. */
+    /* Only the functions below look at these. */
     char path[TRDP_SLOT_PATH];    /* of a control socket; "" at a UDP port */
     size_t come;                  /* how many bytes of a connection are in `text` */
     size_t taken;                 /* how many of these were read */
@@ -1612,7 +1614,7 @@ static inline bool trdp_slot_begins(struct trdp_slot *slot, const struct trdp_sl
 
 /* Opens a slot: connects a socket to its control port, and has its indications come here from now
  * on. It waits for nothing, and doesn't know whether a daemon is there: the first call shows it.
- * Errors: ARGUMENT where a buffer is missing or too small, or `timeout`, `tries` or `port` is 0;
+ * Errors: ARGUMENT if a buffer is missing or too small, or `timeout`, `tries` or `port` is 0;
  * SYSTEM. */
 static inline enum trdp_slot_error trdp_slot_open(struct trdp_slot *slot,
     const struct trdp_slot_terms *terms)
@@ -1627,9 +1629,9 @@ static inline enum trdp_slot_error trdp_slot_open(struct trdp_slot *slot,
 
 /* Opens a slot at a control socket: connects to its path, such as "/run/trdpd/18000", and is the
  * application from then on. It waits for no answer.
- * Errors: ARGUMENT where a buffer is missing or too small, `timeout` or `tries` is 0, or the path
- * is empty or longer than 107 bytes; the slot isn't open then. NOBODY where no one listens there;
- * SYSTEM, as with EACCES where this user may not connect; BUSY where another application lives
+ * Errors: ARGUMENT if a buffer is missing or too small, `timeout` or `tries` is 0, or the path
+ * is empty or longer than 107 bytes; the slot isn't open then. NOBODY if no one listens there;
+ * SYSTEM, as with EACCES if this user may not connect; BUSY if another application lives
  * there, if the daemon has said so already, and else the first call shows it. Then the slot is open
  * all the same, and each call tries again to connect, until it is closed. */
 static inline enum trdp_slot_error trdp_slot_open_path(struct trdp_slot *slot, const char *path,
@@ -1914,9 +1916,9 @@ static inline enum trdp_slot_error trdp_slot_do_handle(struct trdp_slot *slot, c
 
 /* ---- Process data ----
  *
- * Every call below may come to TIMEOUT, NOBODY, SYSTEM, OTHER_SLOT, OPERATORS_PORT, at a control
- * socket to BUSY and RESTARTED, to ARGUMENT for a slot that isn't open, and, where it carries
- * bytes, to LONG. Named are the refusals that docs/SCRIPT.md has for it. */
+ * Every call below may return TIMEOUT, NOBODY, SYSTEM, OTHER_SLOT, OPERATORS_PORT, at a control
+ * socket BUSY and RESTARTED, ARGUMENT for a slot that isn't open, and LONG if it carries bytes. Each
+ * comment names the refusals that docs/SCRIPT.md has for the call. */
 
 /* Makes a publisher, whose handle comes. A second try may make a second one.
  * Refusals: CYCLE, NO_DATASET, TOO_LONG, QUOTA, EXHAUSTED. */
@@ -1965,7 +1967,7 @@ static inline enum trdp_slot_error trdp_slot_subscribe(struct trdp_slot *slot,
 }
 
 /* Looks at a subscription: how good its value is, and the value in `bytes`, which has so much
- * room; TRDP_SLOT_VALUE is always enough. CUT where it is longer: `length` is that of the whole
+ * room; TRDP_SLOT_VALUE is always enough. CUT if it is longer: `length` is that of the whole
  * value, and the first bytes are there. Refusals: NO_HANDLE, WRONG_KIND. */
 static inline enum trdp_slot_error trdp_slot_get(struct trdp_slot *slot, uint32_t handle,
     struct trdp_slot_value *value, uint8_t *bytes, size_t room)
@@ -2016,7 +2018,7 @@ static inline enum trdp_slot_error trdp_slot_closepull(struct trdp_slot *slot, u
 /* ---- Messages ----
  *
  * A payload has TRDP_SLOT_MESSAGE bytes at most, and over UDP some 32,000: two digits each fit in a
- * datagram. ARGUMENT where a URI is longer than 32 bytes, or `payload` is NULL and `length` isn't
+ * datagram. ARGUMENT if a URI is longer than 32 bytes, or `payload` is NULL and `length` isn't
  * 0. */
 
 /* Makes a listener, whose handle comes. A second try may make a second one. Only one application of
@@ -2058,7 +2060,7 @@ static inline enum trdp_slot_error trdp_slot_notify(struct trdp_slot *slot,
 }
 
 /* Sends a request, and makes the caller that waits for its answers, whose handle comes. `replied`
- * reports each answer, `closed` that it is over. A second try is refused SESSION_OPEN where the
+ * reports each answer, `closed` that it is over. A second try is refused SESSION_OPEN if the
  * first one took effect: the handle then comes with `replied` and `closed`.
  * Refusals: STATE, TIMEOUT, EXPECTED, TOO_LONG, SESSION_OPEN, QUOTA, EXHAUSTED, RETRIES. */
 static inline enum trdp_slot_error trdp_slot_request(struct trdp_slot *slot,
@@ -2103,7 +2105,7 @@ static inline enum trdp_slot_error trdp_slot_query(struct trdp_slot *slot, uint3
     return trdp_slot_do(slot, &line);
 }
 
-/* Sends an error in place of a reply; the replier is over then, and the status is below 0. A
+/* Sends an error instead of a reply; the replier is over then, and the status is below 0. A
  * second try may be refused NO_HANDLE. Refusals: NO_HANDLE, WRONG_KIND, STATE, STATUS. */
 static inline enum trdp_slot_error trdp_slot_replyerror(struct trdp_slot *slot, uint32_t handle,
     uint32_t com_id, int32_t status)
@@ -2114,7 +2116,7 @@ static inline enum trdp_slot_error trdp_slot_replyerror(struct trdp_slot *slot, 
 }
 
 /* Confirms the query that a caller has from a place; the status is 0 or more. A second try may be
- * refused STATE, or NO_HANDLE where the caller is over. Refusals: NO_HANDLE, WRONG_KIND, STATE,
+ * refused STATE, or NO_HANDLE if the caller is over. Refusals: NO_HANDLE, WRONG_KIND, STATE,
  * STATUS. */
 static inline enum trdp_slot_error trdp_slot_confirm(struct trdp_slot *slot, uint32_t handle,
     struct trdp_slot_place place, int32_t status)
@@ -2278,7 +2280,7 @@ static inline enum trdp_slot_error trdp_slot_hear_usages(struct trdp_slot *slot,
 
 /* What each slot has and may have at most, slots rising: as many as there are come to `count`, and
  * the first of them to `usages`, which has room for that many; TRDP_SLOT_SLOTS is always enough.
- * CUT where they are more. It changes nothing, so that this is how one looks at a daemon whose
+ * CUT if they are more. It changes nothing, so that this is how one looks at a daemon whose
  * applications are at control sockets. */
 static inline enum trdp_slot_error trdp_slot_slots(struct trdp_slot *slot,
     struct trdp_slot_usage *usages, size_t room, size_t *count)
@@ -2336,16 +2338,16 @@ static inline enum trdp_slot_error trdp_slot_tell_lost(struct trdp_slot *slot,
 /* Takes the next indication: one that was kept, or the first that comes within `wait`
  * milliseconds, 0 to look only. Its payload comes to `bytes`, which has so much room.
  *
- * CUT where the payload is longer: all else is there, `length` is that of the whole payload, and
- * its first bytes are there; the rest is gone. LOST where texts were lost: `lost` says how many,
+ * CUT if the payload is longer: all else is there, `length` is that of the whole payload, and
+ * its first bytes are there; the rest is gone. LOST if texts were lost: `lost` says how many,
  * and there may be answers among them. What this header or the system dropped is reported before
- * those that are kept; what the daemon dropped at a control socket, in its place. TIMEOUT where
- * none came; NOBODY where the latest line found no one at the control port; SYSTEM; ARGUMENT for a
+ * those that are kept; what the daemon dropped at a control socket, in its place. TIMEOUT if
+ * none came; NOBODY if the latest line found no one at the control port; SYSTEM; ARGUMENT for a
  * slot that isn't open.
  *
- * At a control socket RESTARTED where the connection has ended. The next call of this connects
+ * At a control socket RESTARTED if the connection has ended. The next call of this connects
  * again within its wait, without one at most once in TRDP_SLOT_PAUSE milliseconds, and answers
- * NOBODY, SYSTEM or BUSY where it couldn't. After a call that returned OTHER_SLOT or OPERATORS_PORT
+ * NOBODY, SYSTEM or BUSY if it couldn't. After a call that returned OTHER_SLOT or OPERATORS_PORT
  * it doesn't connect again, and returns the same after its wait.
  *
  * A program that polls `socket` itself calls this with a wait of 0 before, until it answers
@@ -2652,8 +2654,8 @@ static inline bool trdp_slot_pack_value(struct trdp_slot_packer *packer,
 /* Makes the bytes of a value, which is a struct of this dataset, as the node has them: packed, with
  * the highest byte first. They come to `bytes`, which has so much room, and how many they are to
  * `length`.
- * Errors: CUT where they are more: `length` is how many, and the first of them are there. NO_FIT
- * where a count is more than its array has room for. ARGUMENT where the dataset isn't one, as for a
+ * Errors: CUT if they are more: `length` is how many, and the first of them are there. NO_FIT
+ * if a count is more than its array has room for. ARGUMENT if the dataset isn't one, as for a
  * member of another width than its type. */
 static inline enum trdp_slot_error trdp_slot_pack(const struct trdp_slot_dataset *dataset,
     const void *value, uint8_t *bytes, size_t room, size_t *length)
@@ -2741,9 +2743,9 @@ static inline void trdp_slot_unpack_value(struct trdp_slot_unpacker *unpacker,
 }
 
 /* Makes a value, which is a struct of this dataset, of its bytes.
- * Errors: NO_FIT where they are none: too few, or some are left over. CUT where they are one, but
- * an array has more items than its member has room for. ARGUMENT where the dataset isn't one. All
- * bytes of the struct are zero then; it is left as it is by ARGUMENT alone. */
+ * Errors: NO_FIT if they are none: too few, or some are left over. CUT if they are one, but
+ * an array has more items than its member has room for. ARGUMENT if the dataset isn't one. All
+ * bytes of the struct are zero then; only ARGUMENT leaves it as it is. */
 static inline enum trdp_slot_error trdp_slot_unpack(const struct trdp_slot_dataset *dataset,
     const uint8_t *bytes, size_t length, void *value)
 {

@@ -1,4 +1,4 @@
-/* The memory of libtrdp_node.a without malloc: a pool of a fixed size, in place of trdp_node_alloc.c.
+/* The memory of libtrdp_node.a without malloc: a pool of a fixed size, instead of trdp_node_alloc.c.
  *
  *     gcc -std=c99 -O2 -I clients/c -o loop examples/embed/loop.c examples/embed/pool.c \
  *         out/unproved/libtrdp_node.a
