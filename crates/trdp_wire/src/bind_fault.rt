@@ -1,14 +1,14 @@
-//! Why a port of a node isn't bound.
+//! Why a service can't open its ports.
 
 use thiserror::Error;
 
-/// Why the ports of a node aren't bound.
+/// Why a service can't open its ports.
 #[derive(Clone, Copy, Debug, PartialEq, Eq, Error)]
 pub enum BindFault {
-    /// The system refuses one of the ports.
+    /// The system refuses to bind or to watch a port, or refuses a path.
     #[error("a port of the node can't be bound")]
     Bind = 1,
-    /// The system is out of memory for one of the ports.
+    /// An allocation fails, or the system is out of memory.
     #[error("there is no memory for the sockets")]
     OutOfMemory = 2,
 }

@@ -7,10 +7,10 @@ ghost use Rattle.trdp_base.specs.Reported.{TellsMore};
 pub trait Clock {
     ghost use Rattle.std.specs.Prelude.{ℕ, List, Option, None};
 
-    /// What it has read, in order; none where this clock reports nothing.
+    /// What it has read, in order; None if this clock reports nothing.
     ghost readings: { Self → Option (List ℕ) } = { λ _. None };
 
-    /// How long its owner has slept by it, in microseconds and in order; none where this clock
+    /// How long its owner has slept by it, in microseconds and in order; None if this clock
     /// reports no sleeps.
     ghost sleeps: { Self → Option (List ℕ) } = { λ _. None };
 

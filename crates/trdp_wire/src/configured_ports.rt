@@ -12,7 +12,7 @@ use trdp_dataset::NodeConfig;
 /// The ports of a turn, in its order.
 ///
 /// # Errors
-/// `AllocError` where an allocation for their list fails.
+/// `AllocError` if an allocation for their list fails.
 pub fn ports_of(alloc: Global, config: &NodeConfig) -> Result<Vec<Port>, AllocError>
     ensures { IfOk result (λ ports. ports.items ≡ ports_of config.now) }
 {
@@ -26,6 +26,9 @@ pub fn ports_of(alloc: Global, config: &NodeConfig) -> Result<Vec<Port>, AllocEr
 }
 
 /// Adds the ports of these groups, two for each.
+///
+/// # Errors
+/// `AllocError` if the list can't grow.
 fn push_groups(ports: &mut Vec<Port>, groups: &[u32]) -> Result<(), AllocError>
     ensures { OnOk result (ports.new.items ≡ ports.old.items ++ group_ports groups.now) }
 {
@@ -37,8 +40,8 @@ fn push_groups(ports: &mut Vec<Port>, groups: &[u32]) -> Result<(), AllocError>
 }
 
 /// The number of the control port of a slot: of one that the configuration has, or of one that is
-/// added after these. 0 is no port; None where the configuration names neither the slot nor a
-/// spare port for it.
+/// added after these. 0 is no port; None if the configuration names neither the slot nor a spare
+/// port for it.
 pub fn control_number(config: &NodeConfig, slot: usize) -> Option<u16>
     ensures { result ≡ slice_get (control_numbers config.now) slot }
 {
@@ -51,6 +54,9 @@ pub fn control_number(config: &NodeConfig, slot: usize) -> Option<u16>
 }
 
 /// Adds the control port of a slot, unless its number is 0.
+///
+/// # Errors
+/// `AllocError` if the list can't grow.
 fn push_control(ports: &mut Vec<Port>, config: &NodeConfig, slot: usize) -> Result<(), AllocError>
     requires slot { slot < length (control_numbers config.now) }
     requires few { length (control_numbers config.now) ≤ 31 }
@@ -67,7 +73,7 @@ fn push_control(ports: &mut Vec<Port>, config: &NodeConfig, slot: usize) -> Resu
     }
 }
 
-/// The index of a slot as its number.
+/// The index of a slot, from 0 to 30, as its number.
 pub fn slot_number(slot: usize) -> u16
     requires { slot < 31 }
     ensures { result ≡ slot }
@@ -76,6 +82,9 @@ pub fn slot_number(slot: usize) -> u16
 }
 
 /// Adds a port, unless its number is 0.
+///
+/// # Errors
+/// `AllocError` if the list can't grow.
 #[tactic(auto, unfolding(crate::specs::Ports::port_unless_0))]
 fn push_unless_0(ports: &mut Vec<Port>, number: u16, port: Port) -> Result<(), AllocError>
     ensures { OnOk result (ports.new.items ≡ ports.old.items ++ port_unless_0 number port) }

@@ -10,11 +10,11 @@ use thiserror::Error;
 #[error("the wire couldn't take or give a datagram")]
 pub struct WireFault;
 
-/// A wire fails. The failure is counted, unless the count is at its last value: then nothing
-/// failed.
+/// Counts one more failure of a wire. A count of 2^64 - 1 stays; the call then counts as one that
+/// found nothing, or sent.
 ///
 /// # Errors
-/// `WireFault`, where the count rose.
+/// `WireFault` if the count rose.
 #[tactic(auto, unfolding(crate::specs::Failures::one_more_if))]
 pub fn fail(failures: &mut u64) -> Result<(), WireFault>
     ensures fault { OnErr result (failures.old < failures.new) }

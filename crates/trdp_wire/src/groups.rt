@@ -16,7 +16,7 @@ const GROUPS_MAX: usize = 32;
 /// and in host order. They decide which socket each port of a group has.
 #[derive(Drop)]
 pub struct GroupAddresses {
-    /// The addresses, at most 32; empty where the node is in no group.
+    /// The addresses, at most 32; empty if the node is in no group.
     addresses: ArrayVec<u32, GROUPS_MAX>,
 }
 
@@ -40,9 +40,8 @@ impl GroupAddresses {
         GroupAddresses { addresses }
     }
 
-    /// The number of a port's socket, which is that of its news too: 0 to 2 for process data,
-    /// message data and the operator, then the control ports by slot, and from 34 on two for each
-    /// group.
+    /// The number of a port's socket, and of its news: 0 to 2 for process data, message data and
+    /// the operator, then the control ports by slot, and from 34 on two for each group.
     pub fn socket_of(&self, port: Port) -> usize
         ensures { result ≡ socket_of self.now port }
     {
@@ -56,7 +55,7 @@ impl GroupAddresses {
         }
     }
 
-    /// The index of a group, from 0; the number of groups where it is none of them.
+    /// The index of a group, from 0; the number of groups if it is none of them.
     fn index(&self, group: u32) -> usize
         ensures value { result ≡ group_index self.now group }
         ensures most { result ≤ 32 }
@@ -66,7 +65,7 @@ impl GroupAddresses {
     }
 }
 
-/// The index of a group among these, from 0; None where it is none of them.
+/// The index of a group among these, from 0; None if it is none of them.
 fn place_among(groups: &[u32], group: u32) -> Option<usize>
     ensures value { result ≡ position (λ g. g == group) groups.now }
     ensures within { IfSome result (λ place. place < length groups.now) }

@@ -3,8 +3,8 @@
 //! the ports that a configuration names, and where the socket of each port is bound.
 //!
 //! - [`Wire`] is what datagrams come from and go to, each at a [`Port`] of the node. A
-//!   [`WatchedWire`] is one at which a daemon rests. [`Clock`] is what time is read from, and a
-//!   [`Sleeper`] one to sleep by. [`Sockets`] are the datagram sockets of a system.
+//!   [`WatchedWire`] is one at which a daemon rests. [`Clock`] is what time is read from. A
+//!   [`Sleeper`] is a clock that can sleep. [`Sockets`] are the datagram sockets of a system.
 //! - [`ports_of`] lists the ports of a configuration in the order of a turn, and [`place_of_port`]
 //!   has the socket address of each. [`GroupAddresses`] gives each port the number of its socket.
 //! - [`WireFault`], [`SocketFault`] and [`BindFault`] say what failed. A wire keeps the latest
@@ -20,8 +20,8 @@
 //! over any wire and any clock.
 //!
 //! A wire, a clock and sockets may record their calls (`specs/Told`, `specs/Sockets`): each trait
-//! says what one call adds to this record. Those of the system record nothing, and meet the
-//! contracts so.
+//! says what one call adds to this record. The system's record nothing, so they meet these
+//! contracts.
 //!
 //! **Proved**: which ports a configuration names, in which order; where the socket of each is
 //! bound, and which number it has; how the failures of a wire are counted.

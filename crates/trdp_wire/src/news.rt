@@ -3,7 +3,7 @@
 ghost use Rattle.std.specs.Prelude.{◌≡◌, slice_set};
 ghost use Rattle.trdp_wire.specs.News.{has_news, with_news};
 
-/// Whether there are news of the socket of that number; always true of one of which none are kept.
+/// Whether there is news of the socket of that number; always true if none is kept of it.
 pub fn has_news(news: &[bool], socket: usize) -> bool
     ensures { result ≡ has_news news.now socket }
 {
@@ -13,7 +13,7 @@ pub fn has_news(news: &[bool], socket: usize) -> bool
     }
 }
 
-/// Sets whether there are news of the socket of that number, if any are kept of it.
+/// Sets whether there is news of the socket of that number, if any is kept of it.
 pub fn set_news(news: &mut [bool], socket: usize, is_there: bool)
     ensures { news.new ≡ slice_set news.old socket is_there }
 {
@@ -22,7 +22,7 @@ pub fn set_news(news: &mut [bool], socket: usize, is_there: bool)
     }
 }
 
-/// Notes that there are news of these sockets.
+/// Notes that there is news of these sockets.
 pub fn note_told(news: &mut [bool], sockets: &[usize])
     ensures { news.new ≡ with_news sockets.now news.old }
 {

@@ -8,8 +8,8 @@ use crate::port::Port;
 use trdp_base::{Ip, Place};
 use trdp_dataset::NodeConfig;
 
-/// Where the socket of a port is bound: at the node's address, at a group's, or where lines come
-/// to it at the control address; at number 0 where the configuration names none.
+/// Where the socket of a port is bound: at the node's address, at a group's, or, if lines come to
+/// it, at the control address; at number 0 if the configuration names none.
 pub fn place_of_port(config: &NodeConfig, port: Port) -> Place
     ensures { result ≡ place_of_port config.now port }
 {

@@ -3,11 +3,12 @@
 use std::error::Error;
 use std::{fmt, io};
 
-/// A socket can't take or give a datagram. As text it is what the system calls its error.
+/// A socket can't take or give a datagram. As text it is what the system calls its error; without a
+/// number, `the system did not send it whole`.
 #[derive(Clone, Copy, Debug, PartialEq, Eq)]
 pub struct SocketFault {
-    /// The system's number of its error (errno); None where it has none, for example where only a
-    /// part of a datagram was sent, or no socket has the number that was called.
+    /// The system's number of its error (errno); None if it has none, for example if only a part of
+    /// a datagram was sent, or if no socket has the number that was called.
     pub code: Option<i32>,
 }
 

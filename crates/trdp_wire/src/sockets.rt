@@ -17,15 +17,14 @@ pub trait Sockets {
     ghost use Rattle.std.specs.Prelude.{List, Option};
     ghost use Rattle.trdp_wire.specs.Sockets.{SocketCall};
 
-    /// What was asked of them, in order, with the answers; none where these sockets report
-    /// nothing.
+    /// What was asked of them, in order, with the answers; None if these sockets report nothing.
     ghost calls: { Self → Option (List SocketCall) };
 
-    /// Binds a socket at a socket address of this machine. Where there is a time to live, what it
-    /// sends has that, to a group too; None leaves the system's.
+    /// Binds a socket at a socket address of this machine. If a time to live is given, all that it
+    /// sends has that one, also to a group; None leaves the system's.
     ///
     /// # Errors
-    /// `OutOfMemory` where an allocation for it fails, and else `Bind`.
+    /// `OutOfMemory` if an allocation for it fails, and else `Bind`.
     fn bind(&mut self, socket: usize, place: Place, ttl: Option<u8>) -> Result<(), BindFault>
         ensures { TellsMore (calls self.old) (calls self.new)
             (Binds socket place ttl (fault_of_result result) ∷ []) };
@@ -34,7 +33,7 @@ pub trait Sockets {
     /// cut to it, and the answer is where it came from and how many bytes it has there.
     ///
     /// # Errors
-    /// `SocketFault`, where the system fails at it.
+    /// `SocketFault` if the system fails at it.
     fn take(
         &mut self,
         socket: usize,
@@ -47,7 +46,7 @@ pub trait Sockets {
     /// Sends a datagram from a socket to a socket address.
     ///
     /// # Errors
-    /// `SocketFault`, where the system refuses it.
+    /// `SocketFault` if the system refuses it.
     fn give(&mut self, socket: usize, to: Place, bytes: &[u8]) -> Result<(), SocketFault>
         ensures { TellsMore (calls self.old) (calls self.new)
             (GivesFrom socket to bytes.now (fault_of_result result) ∷ []) };
@@ -55,7 +54,7 @@ pub trait Sockets {
     /// From now on a wait ends when a datagram comes at a socket.
     ///
     /// # Errors
-    /// `OutOfMemory` where an allocation for it fails, and else `Bind`.
+    /// `OutOfMemory` if an allocation for it fails, and else `Bind`.
     fn watch(&mut self, alloc: Global, socket: usize) -> Result<(), BindFault>
         ensures { TellsMore (calls self.old) (calls self.new)
             (Watches socket (fault_of_result result) ∷ []) };

@@ -13,7 +13,7 @@ pub trait WatchedWire: Wire {
     ghost use Rattle.std.specs.Prelude.{ℕ, Bool};
     ghost use Rattle.trdp_wire.specs.declared.port.Port.{Port};
 
-    /// Whether something may be at a port, as far as the wire knows; true where it keeps no news.
+    /// Whether something may be at a port, as far as the wire knows; true if it keeps no news.
     ghost news: { Self → Port → Bool };
 
     /// What a rest of at most that many microseconds makes of the wire.
@@ -27,13 +27,12 @@ pub trait WatchedWire: Wire {
         ensures gives_nothing { Self.gives self.new ≡ Self.gives self.old }
         ensures fault { Self.faults self.new ≡ Self.faults self.old };
 
-    /// Whether something may be at a port: it may, unless a take found nothing there and the
-    /// system has reported no news since.
+    /// Whether something may be at a port; always true if the wire keeps no news.
     fn has_news(&self, port: Port) -> bool
         ensures { result ≡ news self.now port };
 
-    /// Notes whether something may be at a port, up to the next news of it. A port that is apart
-    /// from it, as one of another kind is, keeps its news.
+    /// Sets whether something may be at a port, if the wire keeps news of it, until the system next
+    /// reports news of it. Ports of another kind keep their news.
     fn set_news(&mut self, port: Port, may_be: bool)
         ensures noted { IsNoted may_be (news self.old port) (news self.new port) }
         ensures others { (other : Port) → are_apart port other ≡ true

@@ -17,10 +17,10 @@ pub trait Wire {
     ghost use Rattle.std.specs.Prelude.{ℕ, List, Option, None};
     ghost use Rattle.trdp_wire.specs.Told.{Give, Taking};
 
-    /// What each take answered, in order; none where this wire reports nothing.
+    /// What each take answered, in order; None if this wire reports nothing.
     ghost takings: { Self → Option (List Taking) } = { λ _. None };
 
-    /// What was given, in order, and whether the wire failed at it; none where this wire reports
+    /// What was given, in order, and whether the wire failed at it; None if this wire reports
     /// nothing.
     ghost gives: { Self → Option (List Give) } = { λ _. None };
 
@@ -32,7 +32,7 @@ pub trait Wire {
     /// whether an application has ended.
     ///
     /// # Errors
-    /// `WireFault`, where the wire fails; its failures rise then.
+    /// `WireFault` if the wire fails; its failures rise then.
     fn take(&mut self, port: Port, room: &mut [u8]) -> Result<Option<(Place, usize)>, WireFault>
         ensures within { IfOk result (λ found. IfSome found (λ f. f.1 ≤ length room.new)) }
         ensures takes { TellsMore (takings self.old) (takings self.new)
@@ -40,11 +40,10 @@ pub trait Wire {
         ensures gives_nothing { TellsMore (gives self.old) (gives self.new) [] }
         ensures fault { OnErr result (faults self.old < faults self.new) };
 
-    /// Takes as [`Wire::take`] does, and returns too whether what it hands in is the end of the
-    /// application there, for example because its connection is over: then no one is there who
-    /// could be informed. Where `anew` is true, a wire that keeps news of its ports looks for a
-    /// datagram whatever news it has. A wire that knows no ends and keeps no news needs none of
-    /// its own.
+    /// Takes as [`Wire::take`] does. Also returns whether what it found is the end of the
+    /// application there: then nobody is there to answer. If `anew` is true, a wire that keeps
+    /// news looks even if it has none. The default is for a wire that knows no ends and keeps no
+    /// news.
     ///
     /// # Errors
     /// As [`Wire::take`].
@@ -66,7 +65,7 @@ pub trait Wire {
     /// Sends a datagram from a port to a socket address.
     ///
     /// # Errors
-    /// `WireFault`, where the wire fails; its failures rise then.
+    /// `WireFault` if the wire fails; its failures rise then.
     fn give(&mut self, port: Port, to: Place, bytes: &[u8]) -> Result<(), WireFault>
         ensures offers { TellsMore (gives self.old) (gives self.new)
             (give_of port to bytes.now result ∷ []) }
@@ -77,19 +76,19 @@ pub trait Wire {
     fn failures(&self) -> u64
         ensures { result ≡ faults self.now };
 
-    /// The latest give that was refused; None before the first, and where this wire keeps none.
+    /// The latest give that was refused; None before the first, and if this wire keeps none.
     fn refusal(&self) -> Option<GiveRefusal> {
         None
     }
 
-    /// The latest take at which the wire failed; None before the first, and where this wire keeps
+    /// The latest take at which the wire failed; None before the first, and if this wire keeps
     /// none.
     fn unread(&self) -> Option<Unread> {
         None
     }
 
-    /// The files of its ports that are gone, so that nobody can connect there any more; none where
-    /// its ports have no files.
+    /// The files of its ports that are gone, so that nobody can connect there any more; none if its
+    /// ports have no files.
     fn missing(&self) -> Missing<'_> {
         Missing::default()
     }
