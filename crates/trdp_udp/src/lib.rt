@@ -1,12 +1,12 @@
 //! The UDP ports of a node over the sockets of a system, and the system's clock. A wire here is a
-//! function of its sockets: each take and each give is one call of them. One wire never waits, and
-//! the other one waits in a rest until something comes.
+//! function of its sockets: each take and each give is one call of them. One wire never waits; the
+//! other waits in a rest until something comes.
 //!
 //! - [`UdpWire`], which never rests, and [`RestingWire`], which does, are wires over
 //!   [`Sockets`](trdp_wire::Sockets).
 //!   [`BoundPorts`] says which ports of a configuration have sockets.
-//! - [`SystemSockets`] and [`RunClock`] are the system's. Where [`SharedWaits`] are asked, a wait
-//!   ends for something else too.
+//! - [`SystemSockets`] and [`RunClock`] are the system's. If [`SharedWaits`] are asked, a wait also
+//!   ends for something else.
 //!
 //! ```text
 //! let wire = UdpWire::bind(&rt, &config)?;
@@ -22,11 +22,11 @@
 //!
 //! **Tested**: both wires over sockets in memory, and over loopback (`trdp_node_tests`).
 //!
-//! **Trusted**: the system, behind one function a call in [`SystemSockets`] and [`RunClock`]. A
-//! socket is bound where it is asked for and never waits; what came is taken whole, and what is
-//! given is sent; a wait ends when a datagram comes, and reports each that did; the time is now. A
-//! system at which nothing ever comes meets the contracts. The tests over loopback try these
-//! calls.
+//! **Trusted**: the system, behind the functions of [`SystemSockets`] and [`RunClock`] that only
+//! make its calls. A socket is bound where it is asked for and never waits; what came is taken
+//! whole, and what is given is sent; a wait ends when a datagram comes, and reports each that did;
+//! the time is now. A system at which nothing ever comes meets the contracts. The tests over
+//! loopback try these calls.
 #![tactic(auto)]
 
 mod bound_ports;

@@ -141,7 +141,7 @@ fn ask<S: Sockets>(
     }
 }
 
-/// The time to live of the telegrams that leave from a port; None where none do.
+/// The time to live of the telegrams that leave from a port; None if none do.
 fn ttl_of(config: &NodeConfig, port: Port) -> Option<u8>
     ensures { result ≡ ttl_of config.now port }
 {

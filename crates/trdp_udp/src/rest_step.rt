@@ -10,8 +10,8 @@ const WAKE_TIME: u64 = 200;
 /// The microseconds of one step of the system's waits.
 const WAIT_STEP: u64 = 1_000;
 
-/// The most microseconds without a rest: a quarter of what the unit's limit lets a process of a
-/// real-time policy run without one.
+/// The most microseconds without a rest: a quarter of the 0.2 s that
+/// `examples/systemd/trdpd.service.d/priority.conf` allows a process of a real-time policy.
 const BREATHLESS: u64 = 50_000;
 
 /// What a rest does.
@@ -23,7 +23,7 @@ pub(crate) enum RestStep {
     Look,
     /// A sleep of that many microseconds, after which the system is asked for news.
     Sleep(u64),
-    /// A wait of that many milliseconds, which news end.
+    /// A wait of that many milliseconds, which news ends.
     Wait(u64),
 }
 
@@ -49,8 +49,8 @@ impl RestStep {
     }
 }
 
-/// What is left of a rest of at most `most` microseconds that begins at the reading `began`, where
-/// the one before ended at `ended`: the turn between them has used some of it.
+/// What is left of a rest of at most `most` microseconds that begins at the reading `began`. If the
+/// rest before ended at `ended`, the turn between them has used some of it.
 pub(crate) fn rest_left(ended: Option<u64>, began: u64, most: u64) -> u64
     ensures { result ≡ rest_left ended began most }
 {
@@ -61,7 +61,7 @@ pub(crate) fn rest_left(ended: Option<u64>, began: u64, most: u64) -> u64
 }
 
 /// Whether there was no rest for 50 milliseconds up to this reading of the clock. `busy` is the
-/// reading since which there was none; None where there was one.
+/// reading since which there was none; None if the latest turn ended with one.
 #[tactic(auto, unfolding(crate::specs::RestSteps::is_breathless))]
 pub(crate) fn is_breathless(busy: Option<u64>, reading: u64) -> bool
     ensures { result ≡ is_breathless busy reading }

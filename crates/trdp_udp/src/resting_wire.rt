@@ -27,9 +27,9 @@ use trdp_wire::{
 /// starts again.
 const BREATH: u64 = 50;
 
-/// The UDP ports of a node, which wait in a rest alone: until something comes at one of them, by
-/// whole milliseconds, and asleep in the last one. It reports no takes and gives; its contracts
-/// say what it makes of the calls of its sockets.
+/// The UDP ports of a node, which wait only in `rest`. A rest is a wait of whole milliseconds, and
+/// a datagram ends it; if less than 1.2 ms is left, it is a sleep. The wire reports no takes and
+/// gives; its contracts say what it makes of the calls of its sockets.
 ///
 /// **A take reads a port only if there is news of it**, which means that something may wait there.
 /// At first there is news of each port. News of a port ends when a take finds nothing there. It
@@ -61,8 +61,8 @@ pub struct RestingWire<S, C> {
     pub(crate) heard: bool,
     /// Whether this turn is the first after a rest, or the first of all.
     pub(crate) is_first: bool,
-    /// The reading of the clock at the end of the first turn without a rest; None where each since
-    /// the latest rest had one.
+    /// The reading of the clock at the end of the first turn since the wire last waited or slept;
+    /// None if it did so at the end of the latest turn, and before the end of the first.
     pub(crate) busy: Option<u64>,
     /// The reading of the clock when the latest rest ended; None before the first.
     pub(crate) rested: Option<u64>,
@@ -170,9 +170,9 @@ impl<S: Sockets, C: Sleeper + Drop> RestingWire<S, C> {
         }
     }
 
-    /// Sleeps for 50 microseconds where there was no rest for 50 milliseconds up to this reading
-    /// of the clock, so that a flood neither has the system end the daemon nor leaves nothing of
-    /// its processor to others.
+    /// If the wire has not rested for 50 milliseconds up to this reading of the clock, sleeps for
+    /// 50 microseconds: so even in a flood other processes run, and the system doesn't end the
+    /// daemon.
     fn breathe(&mut self, reading: u64)
         ensures breathes { Breathes reading
             (C.sleeps self.old.clock) (C.sleeps self.new.clock) self.old.busy self.new.busy }

@@ -8,7 +8,7 @@ use std::time::{Duration, Instant};
 use std::{thread, time};
 use trdp_wire::{Clock, Sleeper};
 
-/// The microseconds since the first time that the system's clock gave. Where that clock fails it
+/// The microseconds since the first time that the system's clock gave. If that clock fails, it
 /// repeats its last number, at first 0. It reports no readings and no sleeps.
 #[derive(Drop)]
 pub struct RunClock<'a, R: time::Clock> {

@@ -1,12 +1,12 @@
-//! Sockets whose waits end for something else too.
+//! Sockets whose waits can also end for something else.
 
 use mio::Registry;
 use std::io;
 
-/// Sockets whose waits end for something else too, where the system is asked for that.
+/// Sockets whose waits also end for something else, if the system is asked for that.
 pub trait SharedWaits {
     /// Where the system is asked to end a wait for something else too, by the number of a socket;
-    /// None before the first socket that is watched.
+    /// None until a socket is watched.
     ///
     /// # Errors
     /// The system's error.

@@ -1,7 +1,7 @@
 //! The sockets of the system.
 //!
-//! No contract says what the system does at a call. Each call here is one of the system's, with no
-//! more than what names its arguments and its answer. They are tested over loopback.
+//! No contract says what the system does at a call. Each function here only makes its calls of the
+//! system, and translates their arguments and answers. They are tested over loopback.
 
 ghost use Rattle.std.specs.Prelude.{◌≡◌, ◌*◌, ℕ, List, map};
 ghost use Rattle.std.specs.IoError.{error_kind, raw_os_error};
@@ -36,7 +36,7 @@ const EVENTS: usize = 256;
 pub struct SystemSockets<'a, R: Net> {
     /// The system, which has the network.
     rt: &'a R,
-    /// The socket of each number; None where none is bound.
+    /// The socket of each number; None if none is bound.
     sockets: [Option<UdpSocket>; SOCKETS_MAX],
     /// What a wait needs; None before the first socket that is watched.
     waits: Option<Waits>,
@@ -127,7 +127,7 @@ impl Waits {
     /// What a wait needs, with no socket yet.
     ///
     /// # Errors
-    /// `OutOfMemory` where an allocation for it fails, and else `Bind`.
+    /// `OutOfMemory` if an allocation for it fails, and else `Bind`.
     fn new<R: Net>(rt: &R, alloc: Global) -> Result<Waits, BindFault> {
         let events = Events::with_capacity(alloc, EVENTS).map_err(|_| BindFault::OutOfMemory)?;
         let poll = Poll::new(rt).map_err(bind_fault)?;
@@ -137,7 +137,7 @@ impl Waits {
     /// Asks the system to report when a datagram comes at the socket of that number.
     ///
     /// # Errors
-    /// `OutOfMemory` where the system is out of memory for it, and else `Bind`.
+    /// `OutOfMemory` if the system is out of memory for it, and else `Bind`.
     fn watch(&self, number: usize, socket: &UdpSocket) -> Result<(), BindFault> {
         let mut source = SourceFd(&socket.as_raw_fd());
         let registry = self.poll.registry();
@@ -151,13 +151,13 @@ impl Waits {
     fn wait(&mut self, millis: u64, news: &mut [bool])
         ensures { (told : List ℕ) × (news.new ≡ with_news told news.old) }
     {
-        // Where the system refuses a wait, there is none.
+        // If the system refuses a wait, there is none.
         let _ = self.poll.poll(&mut self.events, Some(time_of(millis)));
         note_events(news, &self.events);
     }
 }
 
-/// Notes that there are news of the numbers of these events.
+/// Notes that there is news of the numbers of these events.
 fn note_events(news: &mut [bool], events: &Events<Global>)
     ensures { news.new ≡ with_news (map source_number (items events.now)) news.old }
 {
@@ -166,8 +166,8 @@ fn note_events(news: &mut [bool], events: &Events<Global>)
     }
 }
 
-/// A socket at a socket address, which never waits. Where there is a time to live, what it sends
-/// has that: the system has one for a single receiver and another for a group.
+/// A socket at a socket address, which never waits. If a time to live is given, all that it sends
+/// has that one: the system keeps one for a single receiver, and another for a group.
 ///
 /// # Errors
 /// The system's error.
@@ -181,8 +181,8 @@ fn bind_socket<R: Net>(rt: &R, place: Place, ttl: Option<u8>) -> io::Result<UdpS
     Ok(socket)
 }
 
-/// The answer of a take to what the system says: nothing where nothing is there, and where a
-/// datagram came from IPv6, which comes to none of these sockets.
+/// The answer of a take to what the system says: nothing if nothing is there, or if a datagram came
+/// from IPv6, which comes to none of these sockets.
 fn received(found: io::Result<(usize, SocketAddr)>) -> Result<Option<(Place, usize)>, SocketFault>
     ensures { result ≡ received_of found }
 {

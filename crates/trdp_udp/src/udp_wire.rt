@@ -21,12 +21,11 @@ use trdp_wire::{
 /// How each answer begins to a datagram that is no line of its port.
 const FAULT_FRONT: &[u8] = b"line fault ";
 
-/// The UDP ports of a node, which never wait, nor rest. It reports no takes and gives; its
+/// The UDP ports of a node, which neither wait nor rest. The wire reports no takes and gives; its
 /// contracts say what it makes of the calls of its sockets.
 ///
-/// At a control port and at the operator's it hands in no datagram that begins with `line fault `:
-/// that is an answer, and can't be read as a line. If it were answered, two ports could answer
-/// each other for ever.
+/// At the control ports and the operator's it drops a datagram that begins with `line fault `: that
+/// is an answer, no line. Two ports that answered such datagrams would answer each other for ever.
 #[derive(Drop)]
 pub struct UdpWire<S> {
     /// The sockets of the ports.
@@ -49,8 +48,8 @@ impl<'a, R: Net> UdpWire<SystemSockets<'a, R>> {
     /// whatever memory is there.
     ///
     /// # Errors
-    /// At the first port that isn't bound: `OutOfMemory` where the system is out of memory for it,
-    /// and else `Bind`.
+    /// At the first port that isn't bound: `OutOfMemory` if the system is out of memory for it, and
+    /// else `Bind`.
     pub fn bind(rt: &'a R, config: &NodeConfig) -> Result<UdpWire<SystemSockets<'a, R>>, BindFault>
         ensures all { IfOk result (λ wire. wire.bound ≡ BoundPorts.All) }
         ensures groups { IfOk result (λ wire. wire.groups ≡ config.now.groups) }
@@ -120,8 +119,8 @@ impl<S: Sockets> UdpWire<S> {
         }
     }
 
-    /// Takes the next datagram at a port, and returns too whether something was heard there: a
-    /// datagram, also one that isn't handed in, or a failure.
+    /// Takes the next datagram at a port. Also returns whether something was heard there: a
+    /// datagram, also one that is dropped, or a failure.
     pub(crate) fn ask(
         &mut self,
         port: Port,
