@@ -53,7 +53,7 @@ impl Arrival {
     }
 }
 
-/// Whether the call of that number is among these.
+/// Whether a call with that number is to fail.
 #[tactic(auto, unfolding(crate::specs::MemoryWires::is_failing))]
 pub(crate) fn is_failing(numbers: &[usize], number: usize) -> bool
     ensures { result ≡ is_failing numbers.now number }
@@ -68,8 +68,7 @@ pub(crate) fn takes_at(taken: &[TakeRow], port: Port) -> usize
     taken.iter().filter(|row| row.port.is(port)).count()
 }
 
-/// The index of what arrives at that take at a port, the first of several; None where nothing
-/// does.
+/// The index of what arrives at that take at a port, the first of several; None if nothing does.
 fn arrival_index(arrivals: &[Arrival], port: Port, number: usize) -> Option<usize>
     ensures { result ≡ position (arrives_at port number) arrivals.now }
 {
@@ -91,7 +90,7 @@ fn is_end_at(arrivals: &[Arrival], port: Port, number: usize) -> bool
     }
 }
 
-/// Whether a take hands in the end of an application, where that is looked for.
+/// Whether a take returns the end of an application; false if ends aren't looked for.
 pub(crate) fn hands_end(
     arrivals: &[Arrival],
     looks: bool,
@@ -104,7 +103,11 @@ pub(crate) fn hands_end(
     looks && !fails && is_end_at(arrivals, port, number)
 }
 
-/// What a take answers after others at its port, and the row that records it.
+/// What the take with that number at a port answers, and what its row keeps of that; `fails` makes
+/// it fail.
+///
+/// # Errors
+/// `WireFault` if the take is to fail, unless the count of failures is at its last value.
 pub(crate) fn answer_take(
     arrivals: &[Arrival],
     failures: &mut u64,
@@ -130,7 +133,10 @@ pub(crate) fn answer_take(
     (answer, Ok(found))
 }
 
-/// What a take answers that is to fail, and the row that records it.
+/// What a take answers that is to fail, and what its row keeps of that.
+///
+/// # Errors
+/// `WireFault`, unless the count of failures is at its last value.
 #[tactic(auto, unfolding(trdp_wire::specs::Failures::failure_after, trdp_wire::specs::Failures::one_more_if, crate::specs::MemoryWires::room_after))]
 pub(crate) fn failing_take(
     failures: &mut u64,
@@ -151,7 +157,7 @@ pub(crate) fn failing_take(
     }
 }
 
-/// What arrives at that take at a port, and the row that records it.
+/// What arrives at that take at a port, and what its row keeps of that.
 #[tactic(auto, unfolding(trdp_wire::specs::Failures::one_more_if))]
 fn take_arrival(
     arrivals: &[Arrival],

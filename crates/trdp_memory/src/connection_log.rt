@@ -64,15 +64,15 @@ pub(crate) fn next_write(rows: &[ConnectionRow], number: u64) -> usize
     rows.iter().filter(|row| is_write_of(number, row)).count() + 1
 }
 
-/// The index of what was laid down for the accept of that number; None where nothing was.
+/// The index of what was laid down for the accept of that number; None if nothing was.
 fn coming_index(comings: &[Coming], accept: usize) -> Option<usize>
     ensures { result ≡ position (comes_at accept) comings.now }
 {
     comings.iter().position(|coming| coming.at_accept == accept)
 }
 
-/// The index of what was laid down for the write of that number to a connection; None where
-/// nothing was.
+/// The index of what was laid down for the write of that number to a connection; None if nothing
+/// was.
 fn answer_index(answers: &[WriteAnswer], number: u64, write: usize) -> Option<usize>
     ensures { result ≡ position (answers_write number write) answers.now }
 {
@@ -89,7 +89,7 @@ pub(crate) fn accepted_at(comings: &[Coming], accept: usize) -> Accepted
     }
 }
 
-/// What the write of that number to a connection answers, of so many bytes.
+/// The answer of the write with that number to a connection, of `many` bytes.
 pub(crate) fn went_at(answers: &[WriteAnswer], number: u64, write: usize, many: usize) -> Went
     ensures { result ≡ went_by many (find (answers_write number write) answers.now) }
 {
@@ -110,7 +110,7 @@ fn cut_went(many: usize, went: Went) -> Went
     }
 }
 
-/// A write took so many bytes.
+/// The answer of a write that took so many bytes; `Nothing` if 0.
 fn took(count: usize) -> Went
     ensures { result ≡ took count }
 {
@@ -121,10 +121,10 @@ fn took(count: usize) -> Went
     }
 }
 
-/// A read that put this into a room.
+/// The row of a read that put this into a room.
 ///
 /// # Errors
-/// `AllocError` where an allocation for its bytes fails.
+/// `AllocError` if an allocation for its bytes fails.
 pub(crate) fn read_row(
     alloc: Global,
     number: u64,
@@ -140,10 +140,10 @@ pub(crate) fn read_row(
     Ok(ConnectionRow::Read(number, room.len(), came, bytes))
 }
 
-/// A write of these bytes that was answered so.
+/// The row of a write of these bytes that was answered so.
 ///
 /// # Errors
-/// `AllocError` where an allocation for them fails.
+/// `AllocError` if an allocation for them fails.
 pub(crate) fn write_row(
     alloc: Global,
     number: u64,

@@ -31,6 +31,6 @@ pub(crate) struct WriteAnswer {
     pub(crate) number: u64,
     /// The number of the write to it, from 1.
     pub(crate) at_write: usize,
-    /// The answer, where there are as many bytes.
+    /// The answer, if there are as many bytes.
     pub(crate) went: Went,
 }

@@ -24,8 +24,8 @@
 //! ```
 //!
 //! **Proved**: what each call answers and records, as a function of what was laid down and of the
-//! calls before. No contract says when a call that allocates finds no memory: it fails then, or the
-//! clock, the sockets, the connections or the folder report nothing from then on.
+//! calls before. No contract says when a call that allocates finds no memory. It fails then, or the
+//! clock reports no more sleeps, or the sockets, the connections or the folder report nothing more.
 //!
 //! **Tested** in `trdp_node_tests`: the wires of `trdp_udp` over sockets in memory; a daemon over a
 //! wire with an end, a path over connections, and a wire over control sockets that is opened in a

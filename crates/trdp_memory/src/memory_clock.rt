@@ -28,7 +28,7 @@ impl MemoryClock {
     /// A clock that reads these numbers.
     ///
     /// # Errors
-    /// `AllocError` where an allocation for the list fails.
+    /// `AllocError` if an allocation for the list fails.
     pub fn new(alloc: Global, moments: &[u64]) -> Result<MemoryClock, AllocError>
         ensures moments { IfOk result (λ clock. clock.moments.items ≡ moments.now) }
         ensures count { IfOk result (λ clock. clock.count ≡ 0) }

@@ -84,7 +84,7 @@ impl MemoryConnections {
     /// things for one accept the first holds.
     ///
     /// # Errors
-    /// `AllocError` where an allocation for it fails.
+    /// `AllocError` if an allocation for it fails.
     pub fn come(&mut self, accept: usize) -> Result<(), AllocError>
         ensures laid_down { OnOk result (self.new
             ≡ with_coming self.old (record { at_accept = accept; answer = Comes })) }
@@ -101,7 +101,7 @@ impl MemoryConnections {
     /// accept the first holds.
     ///
     /// # Errors
-    /// `AllocError` where an allocation for it fails.
+    /// `AllocError` if an allocation for it fails.
     pub fn refuse(&mut self, accept: usize) -> Result<(), AllocError>
         ensures laid_down { OnOk result (self.new
             ≡ with_coming self.old (record { at_accept = accept; answer = Failed })) }
@@ -114,12 +114,12 @@ impl MemoryConnections {
         Ok(())
     }
 
-    /// Lays down what a connection says: these bytes are there from the read of that number on,
-    /// from 1, after all that was laid down for the connection before. A read brings bytes of one
-    /// such text; what has no room stays for the next read.
+    /// Lays down what a connection says. From the read of that number on, counted from 1, these
+    /// bytes are there. Of what is there, a read brings what was laid down first: bytes of one such
+    /// text. What has no room stays for the next read.
     ///
     /// # Errors
-    /// `AllocError` where an allocation for it fails.
+    /// `AllocError` if an allocation for it fails.
     pub fn say(&mut self, number: u64, read: usize, bytes: &[u8]) -> Result<(), AllocError>
         ensures laid_down { OnOk result (self.new ≡ with_stream_arrival self.old (record {
           number = number;
@@ -140,11 +140,12 @@ impl MemoryConnections {
         Ok(())
     }
 
-    /// Lays down that a connection has ended from the read of that number on, from 1, after all
-    /// that was laid down for it before. What is laid down after that never comes.
+    /// Lays down that a connection ends. From the read of that number on, counted from 1, it has
+    /// ended. What was laid down before and is there comes first; nothing laid down later comes
+    /// from that read on.
     ///
     /// # Errors
-    /// `AllocError` where an allocation for it fails.
+    /// `AllocError` if an allocation for it fails.
     pub fn end(&mut self, number: u64, read: usize) -> Result<(), AllocError>
         ensures laid_down { OnOk result (self.new ≡ with_stream_arrival self.old (record {
           number = number;
@@ -166,11 +167,10 @@ impl MemoryConnections {
     }
 
     /// Lays down what the write of that number to a connection answers, from 1; of `Bytes` no more
-    /// than there are, and `Nothing` where that is none. Of two answers for one write the first
-    /// holds.
+    /// than there are, and `Nothing` if that is none. Of two answers for one write the first holds.
     ///
     /// # Errors
-    /// `AllocError` where an allocation for it fails.
+    /// `AllocError` if an allocation for it fails.
     pub fn answer_write(&mut self, number: u64, write: usize, went: Went) -> Result<(), AllocError>
         ensures laid_down { OnOk result (self.new ≡ with_write_answer self.old
             (record { number = number; at_write = write; went = went })) }

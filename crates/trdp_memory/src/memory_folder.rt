@@ -22,7 +22,7 @@ use trdp_controls::{Folder, ListenFault};
 pub struct ListenRow {
     /// The number of the file.
     pub number: u16,
-    /// Why it was refused; None where a process listens there.
+    /// Why it was refused; None if a process listens there.
     pub fault: Option<ListenFault>,
 }
 
@@ -72,7 +72,7 @@ impl MemoryFolder {
     /// the first holds.
     ///
     /// # Errors
-    /// `AllocError` where an allocation for it fails.
+    /// `AllocError` if an allocation for it fails.
     pub fn refuse(&mut self, number: u16, fault: ListenFault) -> Result<(), AllocError>
         ensures listenings { told_listenings self.new ≡ told_listenings self.old }
         ensures path { self.new.path.now ≡ self.old.path.now }
@@ -132,7 +132,7 @@ impl Folder<MemoryConnections> for MemoryFolder {
     }
 }
 
-/// Why the file of that number is refused; None where it isn't.
+/// Why the file of that number is refused; None if it isn't.
 fn file_fault(refused: &[RefusedFile], number: u16) -> Option<ListenFault>
     ensures { result ≡ file_fault refused.now number }
 {
@@ -142,7 +142,7 @@ fn file_fault(refused: &[RefusedFile], number: u16) -> Option<ListenFault>
     }
 }
 
-/// The index of the fault of the file of that number; None where it has none.
+/// The index of the fault of the file of that number; None if it has none.
 fn file_index(refused: &[RefusedFile], number: u16) -> Option<usize>
     ensures { result ≡ position (is_file_of number) refused.now }
 {

@@ -46,7 +46,7 @@ pub struct MemorySockets {
     arrivals: Vec<SocketArrival>,
     /// What was asked, in order.
     rows: Vec<SocketRow>,
-    /// The address to which no way leads; None where ways lead to all.
+    /// The address to which no way leads; None if ways lead to all.
     far: Option<Ip>,
     /// Whether they report what was asked.
     tells: bool,
@@ -71,7 +71,7 @@ impl MemorySockets {
     /// Lays down a datagram, after the others at its socket.
     ///
     /// # Errors
-    /// `AllocError` where an allocation for it fails.
+    /// `AllocError` if an allocation for it fails.
     pub fn arrive(&mut self, socket: usize, from: Place, bytes: &[u8]) -> Result<(), AllocError>
         ensures calls { told_calls self.new ≡ told_calls self.old }
         ensures far { self.new.far ≡ self.old.far }
@@ -108,7 +108,7 @@ impl MemorySockets {
         &self.rows
     }
 
-    /// Takes the next datagram at a socket out of those that were laid down; None where none is.
+    /// Takes the next datagram at a socket out of those that were laid down; None if none is.
     fn next_at(&mut self, socket: usize, room: &mut [u8]) -> Option<(Place, usize)>
         ensures within { IfSome result (λ found. found.1 ≤ length room.new) }
         ensures length { length room.new ≡ length room.old }
@@ -127,7 +127,7 @@ impl MemorySockets {
     /// The numbers of the sockets at which datagrams wait, for each of these.
     ///
     /// # Errors
-    /// `AllocError` where an allocation for them fails.
+    /// `AllocError` if an allocation for them fails.
     fn sockets_of_arrivals(&self) -> Result<Vec<usize>, AllocError>
         ensures { IfOk result (λ sockets. sockets.items ≡ sockets_in self.now.arrivals.items) }
     {
@@ -141,7 +141,7 @@ impl MemorySockets {
     /// Whether a way leads to an address.
     ///
     /// # Errors
-    /// What the system says where none does.
+    /// The system's error if none does.
     fn way_to(&self, ip: Ip) -> Result<(), SocketFault>
         ensures { fault_of_result result ≡ give_fault self.now.far ip }
     {
@@ -244,10 +244,10 @@ impl Sockets for MemorySockets {
     }
 }
 
-/// A take that put this into a room.
+/// The row of a take that put this into a room.
 ///
 /// # Errors
-/// `AllocError` where an allocation for its bytes fails.
+/// `AllocError` if an allocation for its bytes fails.
 fn taken(
     alloc: Global,
     socket: usize,
@@ -268,10 +268,10 @@ fn taken(
     }
 }
 
-/// A give of these bytes that was answered so.
+/// The row of a give of these bytes that was answered so.
 ///
 /// # Errors
-/// `AllocError` where an allocation for them fails.
+/// `AllocError` if an allocation for them fails.
 fn given(
     alloc: Global,
     socket: usize,

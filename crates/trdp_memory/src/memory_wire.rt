@@ -89,7 +89,7 @@ impl MemoryWire {
     /// gives.
     ///
     /// # Errors
-    /// `AllocError` where an allocation for these fails.
+    /// `AllocError` if an allocation for these fails.
     pub fn new(
         alloc: Global,
         takes: usize,
@@ -149,11 +149,11 @@ impl MemoryWire {
         &self.rested
     }
 
-    /// Takes the next datagram at a port, and returns too whether it is the end of an application,
-    /// if that is looked for.
+    /// Takes the next datagram at a port. Also returns whether it is the end of an application, if
+    /// that is looked for.
     ///
     /// # Errors
-    /// `WireFault` beyond the room for takes, and where it was laid down.
+    /// `WireFault` beyond the room for takes, and if it was laid down.
     fn receive(
         &mut self,
         port: Port,

@@ -7,7 +7,7 @@ ghost use Rattle.trdp_memory.specs.MemoryWires.{no_way_if};
 use trdp_base::Place;
 use trdp_wire::{GiveRefusal, Port, SocketFault, WireFault};
 
-/// The system's number of its error where no way leads to a network (ENETUNREACH).
+/// The system's number of its error if no way leads to a network (ENETUNREACH).
 const NETWORK_UNREACHABLE: i32 = 101;
 
 /// Why a wire and sockets in memory refuse a give: as if no way led to its network.

@@ -71,8 +71,8 @@ impl StreamArrival {
     }
 }
 
-/// The index of the first that is there at the read of that number from a connection; None where
-/// none is.
+/// The index of the first that is there at the read of that number from a connection; None if none
+/// is.
 fn place_of(arrivals: &[StreamArrival], number: u64, read: usize) -> Option<usize>
     ensures { result ≡ position (has_arrived number read) arrivals.now }
 {

@@ -35,7 +35,7 @@ impl SocketArrival {
     }
 }
 
-/// The index of the next datagram at a socket; None where none waits there.
+/// The index of the next datagram at a socket; None if none waits there.
 pub(crate) fn index_at(arrivals: &[SocketArrival], socket: usize) -> Option<usize>
     ensures { result ≡ position (is_at socket) arrivals.now }
 {

@@ -19,7 +19,7 @@ pub(crate) fn push_rest(rested: &mut Vec<Rest>, rest: Rest)
     rested.push_reserved(rest);
 }
 
-/// Fails where it is to fail, unless the count of failures is at its last value.
+/// Fails if it is to fail, unless the count of failures is at its last value.
 #[tactic(auto, unfolding(trdp_wire::specs::Failures::one_more_if))]
 pub(crate) fn fail_if(fails: bool, failures: &mut u64) -> Result<(), WireFault>
     ensures fault { OnErr result (failures.old < failures.new) }

@@ -19,7 +19,7 @@ impl MemoryWire {
     /// for one take the first arrives.
     ///
     /// # Errors
-    /// `AllocError` where an allocation for it fails.
+    /// `AllocError` if an allocation for it fails.
     pub fn arrive(
         &mut self,
         port: Port,
@@ -44,7 +44,7 @@ impl MemoryWire {
     /// `find` says that it is an end, and `take` nothing.
     ///
     /// # Errors
-    /// `AllocError` where an allocation for it fails.
+    /// `AllocError` if an allocation for it fails.
     pub fn end(&mut self, port: Port, take: usize, from: Place) -> Result<(), AllocError>
         ensures laid_down { OnOk result (self.new ≡ with_arrival self.old (record {
           port = port;
@@ -62,7 +62,7 @@ impl MemoryWire {
     /// arrive at it never comes.
     ///
     /// # Errors
-    /// `AllocError` where an allocation for it fails.
+    /// `AllocError` if an allocation for it fails.
     pub fn fail_take(&mut self, number: usize) -> Result<(), AllocError>
         ensures laid_down { OnOk result (self.new ≡ with_failing_take self.old number) }
         ensures kept { OnErr result (self.new ≡ self.old) }
@@ -74,7 +74,7 @@ impl MemoryWire {
     /// Lays down that the give of that number fails, counted from 1 over all ports.
     ///
     /// # Errors
-    /// `AllocError` where an allocation for it fails.
+    /// `AllocError` if an allocation for it fails.
     pub fn fail_give(&mut self, number: usize) -> Result<(), AllocError>
         ensures laid_down { OnOk result (self.new ≡ with_failing_give self.old number) }
         ensures kept { OnErr result (self.new ≡ self.old) }
@@ -86,7 +86,7 @@ impl MemoryWire {
     /// Lays down one more datagram, or the end of an application.
     ///
     /// # Errors
-    /// `AllocError` where an allocation for it fails.
+    /// `AllocError` if an allocation for it fails.
     fn lay_down(
         &mut self,
         port: Port,
