@@ -15,7 +15,7 @@ pub(crate) struct Contact {
     pub(crate) reading: u64,
 }
 
-/// The latest line of the slot of that number; None where it had none, or it was forgotten.
+/// The latest line of the slot of that number; None if it had none, or it was forgotten.
 pub(crate) fn contact_of(contacts: &[Option<Contact>], slot: u16) -> Option<Contact>
     ensures { result ≡ contact_of contacts.now slot }
 {

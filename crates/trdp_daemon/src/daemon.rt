@@ -69,7 +69,7 @@ impl<W: Wire, C: Clock> Daemon<W, C> {
     /// It has no lease: the application of a slot may be silent for ever.
     ///
     /// # Errors
-    /// Configuration, wire and clock come back where an allocation fails.
+    /// Configuration, wire and clock come back if an allocation fails.
     pub fn new(
         alloc: Global,
         config: NodeConfig,
@@ -85,16 +85,17 @@ impl<W: Wire, C: Clock> Daemon<W, C> {
         Daemon::with_lease(alloc, config, None, wire, clock)
     }
 
-    /// The same with a lease of that many microseconds; None is no lease. A slot is reset, as by
-    /// its own call, where a take at its control port finds nothing and the take's turn began more
-    /// than the lease after the turn of the slot's latest line. The reset is reported to no one,
-    /// and the slot has no control place up to its next line: so it is reset once for each
-    /// silence. A slot that had no line yet may be silent for ever. No rest ends for a lease.
+    /// A daemon as [`Daemon::new`] makes it, with a lease of that many microseconds; None is no
+    /// lease. A slot is reset, as by its own call, if a take at its control port finds nothing and
+    /// the take's turn began more than the lease after the turn of the slot's latest line. The
+    /// reset is reported to no one, and the slot has no control place up to its next line: so it
+    /// is reset once for each silence. A slot that had no line yet may be silent for ever. No rest
+    /// ends for a lease.
     ///
     /// All buffers are made here but that of the bytes of lines, which grows with them.
     ///
     /// # Errors
-    /// Configuration, wire and clock come back where an allocation fails.
+    /// Configuration, wire and clock come back if an allocation fails.
     pub fn with_lease(
         alloc: Global,
         config: NodeConfig,
@@ -229,7 +230,7 @@ impl<W: WatchedWire, C: Clock> Daemon<W, C> {
 /// The ports of a turn, and room for a take.
 ///
 /// # Errors
-/// `AllocError` where an allocation for these fails.
+/// `AllocError` if an allocation for these fails.
 fn buffers(alloc: Global, config: &NodeConfig) -> Result<(Vec<Port>, Vec<u8>), AllocError>
     ensures ports { IfOk result (λ made. made.0.items ≡ ports_of config.now) }
     ensures room { IfOk result (λ made. length made.1.items ≡ take_room) }

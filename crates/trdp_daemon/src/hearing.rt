@@ -1,4 +1,4 @@
-//! A service hears from the application of a slot, and notes when and from where.
+//! What a service notes of a slot's application: when its line came, and from where.
 
 ghost use Rattle.std.specs.Prelude.{◌≡◌};
 ghost use Rattle.trdp_daemon.specs.Effects.{with_contact};

@@ -31,11 +31,10 @@ pub fn nothing_missed()
         → turns_effect service turns ≡ turns_effect service (map unlost turns) }
 {}
 
-/// An event may be lost only where the node says that it may need memory. Any other that is marked
-/// as lost, or whose line is, has the effect of one that is taken, and so has its turn; one of the
-/// operator is taken, and answered. A line may be lost only where it carries bytes: any other that
-/// is marked as lost has the effect of one that is read. So no skipped line is lost, and at the
-/// operator's port nothing but the opening of a slot, which allocates: no question is.
+/// An event may be lost only if the node says that it may need memory. Any other event has the
+/// effect of an event that was taken, even if it or its line is marked as lost; the operator's is
+/// also answered. A line may be lost only if it carries bytes. So no skipped line is lost, and at
+/// the operator's port only the opening of a slot, which allocates, can be lost.
 pub fn lost_only_where_memory_is_taken()
     ensures tested { (node : NodeModel) (event : EventModel)
         → (may_take_memory node event ≡ true)
@@ -65,10 +64,10 @@ pub fn lost_only_where_memory_is_taken()
         ≡ datagram_effect service totals (Control slot) from bytes (TextsLost []) }
 {}
 
-/// Where the slots of all control ports of a configuration are open, each turn takes once at each
-/// port of the configuration, in their order, each time with the room of a take: a slot that is
-/// open stays so. A node opens each slot of its configuration from the start. So, where no spare
-/// port is named, this holds from the first turn on.
+/// If the slots of all control ports of a configuration are open, each turn takes once at each port
+/// of the configuration, in their order, each time with the room of a take: a slot that is open
+/// stays so. A node opens each slot of its configuration from the start. So, if no spare port is
+/// named, this holds from the first turn on.
 pub fn each_port_is_taken_from()
     ensures served { (config : ConfigModel) (service : ServiceState) (turns : List Turn)
         → length (control_numbers config) ≤ length service.node.slots
@@ -88,8 +87,8 @@ pub fn silence_resets_once()
         → times_out_in slot service turns ≤ 1 }
 {}
 
-/// Where the wire hands in the end of an application, nothing is sent for it: the answer to the
-/// slot's reset belongs to no one, is offered to no wire, and nothing of it is lost.
+/// If the wire reports the end of an application, nothing is sent for it: the answer to the slot's
+/// reset belongs to no one, is offered to no wire, and nothing of it is lost.
 pub fn an_end_tells_nobody()
     ensures { (service : ServiceState) (port : Port) (loss : Loss)
         → (ended_effect service port loss).telling ≡ silence }

@@ -27,9 +27,8 @@ impl Service {
         }
     }
 
-    /// Whether the lease has run out for the slot of a port by the reading of the turn, if that is
-    /// a control port: so it is, too, in the first turn after the daemon itself was stopped for
-    /// longer.
+    /// Whether the lease of the port's slot has run out by the reading of the turn; false at other
+    /// ports. It also runs out if the daemon itself was stopped for that long.
     #[tactic(auto, unfolding(crate::specs::Leases::is_silent_at))]
     pub(crate) fn is_silent_at(&self, port: Port) -> bool
         ensures { result ≡ is_silent_at (service_state self.now) port }

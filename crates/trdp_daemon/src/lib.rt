@@ -1,9 +1,11 @@
 //! A node as a device on a network: datagrams come from a wire, time from a clock.
 //!
 //! - [`Daemon`] takes turns. A turn is one reading of its [`Clock`], which is a moment of the
-//!   node, and then one take at each port of its [`Wire`], each an event. What the node gives, the
-//!   daemon offers to the wire. [`Daemon::run`] takes a number of turns; [`Daemon::attend`] goes
-//!   on until a given time, and rests while nothing is due. [`Totals`] is what a daemon counts.
+//!   node, and then one take at each port of its [`Wire`]. What a take finds is an event, a
+//!   question, a line with a fault or one that is skipped, or the end of an application. What the
+//!   node gives, the daemon offers to the wire. [`Daemon::run`] takes a number of turns;
+//!   [`Daemon::attend`] goes on until a given time, and rests while nothing is due. [`Totals`] is
+//!   what a daemon counts.
 //! - What a wire, a port and a clock are is in `trdp_wire`. [`UdpWire`], which never rests,
 //!   [`RestingWire`], which does, and [`RunClock`] are in `trdp_udp`. [`MemoryWire`] and
 //!   [`MemoryClock`], for tests, are in `trdp_memory`. This crate exports their names too.
@@ -19,11 +21,10 @@
 //! included; and `slots`, what each slot holds and may hold, and how long ago its latest line
 //! came. An answer changes nothing and never allocates (`specs/Questions`, `specs/Counted`).
 //!
-//! A slot is reset where its application ends. A wire whose applications have connections hands in
-//! their ends ([`Wire::find`]), and nothing is sent for such a reset. Over another wire a
-//! lease ([`Daemon::with_lease`]) resets a slot once for each silence that is too long, by the
-//! clock of the turns. Any line at the slot's control port counts as a sign of life, also one with
-//! a fault.
+//! A slot is reset when its application ends. A wire whose applications have connections reports
+//! their ends ([`Wire::find`]), and nothing is sent for such a reset. Over another wire a lease
+//! ([`Daemon::with_lease`]) resets a slot once for each silence that is too long, by the clock of
+//! the turns. Any line at the slot's control port counts as a sign of life, also one with a fault.
 //!
 //! `trdp_controls` puts connections in the place of control ports; `trdp_program` runs the daemon.
 //!

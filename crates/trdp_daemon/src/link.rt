@@ -39,11 +39,11 @@ impl<W: Wire> Link<W> {
 
     /// Takes the next datagram at a port, if one is there. It is put at the front of the room; the
     /// answer is where it came from and how many bytes it has there, and whether it is the end of
-    /// the application there. What came is counted. Where `anew` is true, the wire looks for one
+    /// the application there. What came is counted. If `anew` is true, the wire looks for one
     /// whatever news it has of the port.
     ///
     /// # Errors
-    /// `WireFault`, where the wire fails, which is counted.
+    /// `WireFault` if the wire fails, which is counted.
     pub(crate) fn take(
         &mut self,
         port: Port,

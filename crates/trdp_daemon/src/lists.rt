@@ -30,7 +30,7 @@ impl Lists {
     /// The lists of a service before its first event.
     ///
     /// # Errors
-    /// `AllocError` where an allocation for these fails.
+    /// `AllocError` if an allocation for these fails.
     pub(crate) fn new(alloc: Global) -> Result<Lists, AllocError>
         ensures contacts { IfOk result (λ made. made.contacts.items ≡ no_contacts) }
         ensures answer { IfOk result (λ made. frame_room ≤ vec_capacity made.answer) }

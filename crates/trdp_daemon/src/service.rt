@@ -72,7 +72,7 @@ impl Service {
     /// microseconds.
     ///
     /// # Errors
-    /// The configuration comes back where an allocation fails.
+    /// The configuration comes back if an allocation fails.
     pub(crate) fn new(
         alloc: Global,
         config: NodeConfig,
@@ -103,7 +103,7 @@ impl Service {
         }
     }
 
-    /// How many microseconds from a reading of the clock nothing is due, up to `until`; 0 where
+    /// How many microseconds from a reading of the clock nothing is due, up to `until`; 0 if
     /// something is due already.
     pub(crate) fn idle_time(&self, reading: u64, until: u64) -> u64
         ensures { IsIdleTime self.now.node.slots reading until result }
@@ -112,7 +112,8 @@ impl Service {
         next.saturating_sub(reading)
     }
 
-    /// Takes at a port once, if the node has it, and what comes is one event.
+    /// Takes once at a port, unless it is the control port of a slot that isn't open, and handles
+    /// what came.
     pub(crate) fn visit<W: Wire>(
         &mut self,
         buffer: &mut Vec<u8>,
@@ -135,7 +136,7 @@ impl Service {
         if !is_there {
             return;
         }
-        // Where a take that finds nothing would reset the slot, the wire has to look: the daemon
+        // If a take that finds nothing would reset the slot, the wire has to look: the daemon
         // itself may have been stopped since the system last reported news.
         let anew = self.is_silent_at(port);
         let (found, is_end) = link.take(port, anew, room);
@@ -305,8 +306,8 @@ impl Service {
     /// the node rejected it, and else None.
     ///
     /// # Errors
-    /// `AllocError` where an allocation fails, which it can only where the event may need memory:
-    /// the event is counted, and lost.
+    /// `AllocError` if an allocation fails, which it can only if the event may need memory: the
+    /// event is counted, and lost.
     pub(crate) fn take_event<W: Wire>(
         &mut self,
         event: &Event<'_>,
@@ -352,7 +353,7 @@ impl Service {
     }
 
     /// Resets a slot, and offers its answer, for which there always is room. Returns None, or the
-    /// event's fault where the node has no such slot and rejects it.
+    /// event's fault if the node has no such slot and rejects it.
     fn take_reset<W: Wire>(&mut self, slot: u16, link: &mut Link<W>) -> Option<NodeFault>
         requires sound { IsSoundService self.old }
         ensures sound { IsSoundService self.new }

@@ -70,7 +70,7 @@ fn tell_text<W: Wire>(
     }
 }
 
-/// The control place of a slot; None where it has none.
+/// The control place of a slot; None if it has none.
 fn place_of(contacts: &[Option<Contact>], slot: u16) -> Option<Place>
     ensures { result ≡ contact_place contacts.now slot }
 {

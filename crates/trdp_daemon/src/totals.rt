@@ -4,7 +4,7 @@
 /// 2^64 - 1.
 #[derive(Clone, Copy, Debug, Default, PartialEq, Eq)]
 pub struct Totals {
-    /// How many datagrams came.
+    /// How many takes found something: a datagram, a line, or the end of an application.
     pub taken: u64,
     /// How many datagrams were offered to the wire, those included at which it failed.
     pub offered: u64,
