@@ -7,10 +7,7 @@ ghost use Rattle.trdp_wire.specs.News.{has_news, with_news};
 pub fn has_news(news: &[bool], socket: usize) -> bool
     ensures { result ≡ has_news news.now socket }
 {
-    match news.get(socket) {
-        Some(news) => *news,
-        None => true,
-    }
+    news.get(socket).copied().unwrap_or(true)
 }
 
 /// Sets whether there is news of the socket of that number, if any is kept of it.
