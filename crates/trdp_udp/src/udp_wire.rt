@@ -174,11 +174,40 @@ impl<S: Sockets> Wire for UdpWire<S> {
             (S.calls self.old.sockets) (S.calls self.new.sockets)
             port room.new result self.old.failures self.new.failures heard
             self.old.unread self.new.unread }
+        ensures kept { self.new ≡ record self.old {
+          sockets = self.new.sockets;
+          failures = self.new.failures;
+          unread = self.new.unread;
+        } }
         ensures groups { self.new.groups ≡ self.old.groups }
         ensures refusal { self.new.refusal ≡ self.old.refusal }
     {
         let (found, _) = self.ask(port, room);
         found
+    }
+
+    fn find(
+        &mut self,
+        port: Port,
+        _anew: bool,
+        room: &mut [u8],
+    ) -> (Result<Option<(Place, usize)>, WireFault>, bool)
+        ensures within { IfOk result.0 (λ found. IfSome found (λ f. f.1 ≤ length room.new)) }
+        ensures fault { OnErr result.0 (self.old.failures < self.new.failures) }
+        ensures takes { (heard : Bool) × TakesAtSocket self.old.groups
+            (S.calls self.old.sockets) (S.calls self.new.sockets)
+            port room.new result.0 self.old.failures self.new.failures heard
+            self.old.unread self.new.unread }
+        ensures ends_nothing { result.1 ≡ false }
+        ensures kept { self.new ≡ record self.old {
+          sockets = self.new.sockets;
+          failures = self.new.failures;
+          unread = self.new.unread;
+        } }
+        ensures groups { self.new.groups ≡ self.old.groups }
+        ensures refusal { self.new.refusal ≡ self.old.refusal }
+    {
+        (self.take(port, room), false)
     }
 
     fn give(&mut self, port: Port, to: Place, bytes: &[u8]) -> Result<(), WireFault>
@@ -187,6 +216,11 @@ impl<S: Sockets> Wire for UdpWire<S> {
             (S.calls self.old.sockets) (S.calls self.new.sockets)
             port to bytes.now result self.old.failures self.new.failures
             self.old.refusal self.new.refusal }
+        ensures kept { self.new ≡ record self.old {
+          sockets = self.new.sockets;
+          failures = self.new.failures;
+          refusal = self.new.refusal;
+        } }
         ensures groups { self.new.groups ≡ self.old.groups }
         ensures unread { self.new.unread ≡ self.old.unread }
     {
