@@ -10,12 +10,9 @@ ghost use Rattle.trdp_udp.specs.SocketWires.{GivesAtSocket};
 use crate::bound_ports::BoundPorts;
 use crate::opening::bind_and_watch_ports;
 use crate::rest_step::{RestStep, is_breathless, rest_left};
-use crate::shared_waits::SharedWaits;
 use crate::system_sockets::SOCKETS_MAX;
 use crate::udp_wire::UdpWire;
-use mio::Registry;
 use std::alloc::Global;
-use std::io;
 use trdp_base::Place;
 use trdp_dataset::NodeConfig;
 use trdp_wire::{
@@ -188,17 +185,6 @@ impl<S: Sockets, C: Sleeper + Drop> RestingWire<S, C> {
         } else if self.busy.is_none() {
             self.busy = Some(reading);
         }
-    }
-}
-
-impl<S: Sockets + SharedWaits, C: Sleeper + Drop> RestingWire<S, C> {
-    /// Where the system is asked to end a rest for something else too, by the number of the socket
-    /// of its port (`socket_of`); None where it never waits.
-    ///
-    /// # Errors
-    /// What the system says to it.
-    pub fn registry(&self) -> io::Result<Option<Registry>> {
-        self.wire.sockets.registry()
     }
 }
 
