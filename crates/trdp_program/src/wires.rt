@@ -62,7 +62,7 @@ impl<S: Sockets + SharedWaits, K: Sleeper + Drop> NetworkWire for RestingWire<S,
     ghost refuses = { λ _ _. Unit {0} };
 
     fn path_registry(&self) -> Result<Option<Registry>, BindFault> {
-        match self.registry() {
+        match self.sockets().registry() {
             Ok(registry) => Ok(registry),
             Err(error) if error.kind() == io::ErrorKind::OutOfMemory => Err(BindFault::OutOfMemory),
             Err(_) => Err(BindFault::Bind),
