@@ -1,8 +1,7 @@
 //! What a rest does.
 
 ghost use Rattle.std.specs.Prelude.{◌≡◌};
-ghost use Rattle.trdp_udp.specs.RestSteps.{busy_step, idle_step, is_breathless};
-ghost use Rattle.trdp_udp.specs.RestSteps.{is_rest, rest_left, step_of};
+ghost use Rattle.trdp_udp.specs.RestSteps.{is_breathless, is_rest, rest_left, step_of};
 
 /// How much earlier than asked a wait ends, in microseconds: the system comes late.
 const WAKE_TIME: u64 = 200;
@@ -28,16 +27,24 @@ pub(crate) enum RestStep {
 }
 
 impl RestStep {
-    /// The step of a rest of at most `most` microseconds. `heard` is whether something was heard
-    /// since the rest before, `is_first` whether the turn is the first after a rest.
+    /// The step of a rest of at most `most` microseconds: if something was heard since the rest
+    /// before, as `heard` says, or if no time is left, it is no rest. `is_first` is whether the turn
+    /// is the first after a rest.
     #[tactic(auto, unfolding(crate::specs::RestSteps::step_of))]
     pub(crate) fn of(heard: bool, most: u64, is_first: bool) -> RestStep
         ensures { result ≡ step_of heard most is_first }
     {
+        let early = most.saturating_sub(WAKE_TIME);
         if heard || most == 0 {
-            busy_step(is_first)
+            if is_first {
+                RestStep::GoOn
+            } else {
+                RestStep::Look
+            }
+        } else if early < WAIT_STEP {
+            RestStep::Sleep(most)
         } else {
-            idle_step(most)
+            RestStep::Wait(early / WAIT_STEP)
         }
     }
 
@@ -67,27 +74,4 @@ pub(crate) fn is_breathless(busy: Option<u64>, reading: u64) -> bool
     ensures { result ≡ is_breathless busy reading }
 {
     busy.is_some_and(|since| BREATHLESS <= reading.saturating_sub(since))
-}
-
-/// The step of a turn without a rest: `is_first` is whether it is the first after a rest.
-fn busy_step(is_first: bool) -> RestStep
-    ensures { result ≡ busy_step is_first }
-{
-    if is_first {
-        RestStep::GoOn
-    } else {
-        RestStep::Look
-    }
-}
-
-/// The step of a rest of at most `most` microseconds.
-fn idle_step(most: u64) -> RestStep
-    ensures { result ≡ idle_step most }
-{
-    let early = most.saturating_sub(WAKE_TIME);
-    if early < WAIT_STEP {
-        RestStep::Sleep(most)
-    } else {
-        RestStep::Wait(early / WAIT_STEP)
-    }
 }
