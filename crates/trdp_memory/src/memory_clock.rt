@@ -1,6 +1,7 @@
 //! A clock that reads a list, for tests.
 
 ghost use Rattle.std.specs.Prelude.{◌≡◌, ◌+◌, ◌∷◌, [], min, ◌-◌, ◌^◌, IfOk, IfSome, Some, true};
+ghost use Rattle.std.specs.Prelude.{◌&&◌, nat_lt};
 ghost use Rattle.trdp_memory.specs.MemoryClocks.{reading_at, told_readings, told_sleeps};
 ghost use Rattle.trdp_base.specs.Reported.{TellsMore};
 
@@ -63,6 +64,7 @@ impl Clock for MemoryClock {
         ensures reading { result ≡ reading_at self.old.moments.items self.old.count }
         ensures moments { self.new.moments.items ≡ self.old.moments.items }
         ensures count { self.new.count ≡ min (self.old.count + 1) (2 ^ 64 - 1) }
+        ensures tells { self.new.tells ≡ self.old.tells && nat_lt self.old.count (2 ^ 64 - 1) }
         ensures sleeps_nothing { told_sleeps self.new ≡ told_sleeps self.old }
     {
         let reading = reading_at(&self.moments, self.count);

@@ -327,5 +327,7 @@ impl WatchedWire for MemoryWire {
         true
     }
 
-    fn set_news(&mut self, _port: Port, _may_be: bool) {}
+    fn set_news(&mut self, _port: Port, _may_be: bool)
+        ensures { self.new ≡ self.old }
+    {}
 }
