@@ -1,7 +1,7 @@
 -- The effect of a datagram at a port.
 -- For `Service::visit`, `take_datagram`, `take_operator` and `take_control`.
 -- By cases on the port, and on whether its line was read, skipped or rejected.
-use Rattle.std.proofs.Common.{◌≡◌, ℕ, Bool, true, List, [], ◌∷◌, Option, Some, None}
+use Rattle.std.proofs.Common.{◌≡◌, ℕ, Bool, true, false, List, [], ◌∷◌, Option, Some, None}
 use Rattle.std.proofs.Common.{Result, Ok, Err, refl, sym, ◌∙◌, ap, subst, length, map, take}
 use Rattle.std.specs.Prelude.{option_map}
 use Rattle.trdp_base.specs.declared.place.Place.{Place}
@@ -28,7 +28,7 @@ use Rattle.trdp_daemon.specs.Counting.{totals_after}
 use Rattle.trdp_wire.specs.Told.{Taking, Give, arrived_in, stands_for_end, taking_of}
 use Rattle.trdp_daemon.specs.Effects.{ServiceState, Loss, LineLost, EventLost, TextsLost}
 use Rattle.trdp_daemon.specs.Effects.{Effect, Telling, silence, missing, event_effect, still}
-use Rattle.trdp_daemon.specs.Leases.{quiet_effect}
+use Rattle.trdp_daemon.specs.Leases.{ended_effect, quiet_effect}
 use Rattle.trdp_daemon.specs.Links.{Carries}
 use Rattle.trdp_daemon.specs.Services.{Comes, ComesWith, TakesOnce, service_state}
 use Rattle.trdp_daemon.specs.Turns.{Visit, visit_effect, take_room}
@@ -335,7 +335,7 @@ visited_nothing old new port has_ended found room none whole taken comes =
     (rw none (record { loss = comes.loss; comes = comes.comes }))
 
 -- a datagram came, or the end of an application
-pub visited_found :
+visited_found :
     {W : Type 0} {takings_in : W → Option (List Taking)} {gives_in : W → Option (List Give)}
     {a b c : Link W} (old new : Service) (port : Port) (has_ended : Place → Bool) (found : Found)
     (from : Place) (len : ℕ) (room bytes : List ℕ)
@@ -351,3 +351,35 @@ visited_found {W} {takings_in} {gives_in} {a} {b} {c} old new port has_ended fou
     (came_effect (has_ended from) (service_state old) b.totals port from l)) front comes in
     visited old new port has_ended found room whole taken
     (rw some (record { loss = here.loss; comes = here.comes }))
+
+pub visited_end :
+    {W : Type 0} {takings_in : W → Option (List Taking)} {gives_in : W → Option (List Give)}
+    {a b c : Link W} (old new : Service) (port : Port) (ended : Bool) (found : Found)
+    (from : Place) (len : ℕ) (room : List ℕ)
+    → found ≡ Ok (Some (from, len)) → ended ≡ true → length room ≡ take_room
+    → Carries takings_in gives_in a b (taking_of port (λ place. ended) found room ∷ []) silence
+    → ComesWith takings_in gives_in old new b c (ended_effect (service_state old) port)
+    → TakesOnce takings_in gives_in old new a c port
+visited_end {W} {takings_in} {gives_in} {a} {b} {c} old new port ended found from len room some is
+    whole taken comes =
+    visited_found old new port (λ place. ended) found from len room (take len room) some refl whole
+    taken (subst (λ (e : Bool). ComesWith takings_in gives_in old new b c
+    (came_effect e (service_state old) b.totals port from (take len room))) (sym is)
+    (record { loss = comes.loss; comes = comes.comes }))
+
+pub visited_datagram :
+    {W : Type 0} {takings_in : W → Option (List Taking)} {gives_in : W → Option (List Give)}
+    {a b c : Link W} (old new : Service) (port : Port) (ended : Bool) (found : Found)
+    (from : Place) (len : ℕ) (room bytes : List ℕ)
+    → found ≡ Ok (Some (from, len)) → ended ≡ false → bytes ≡ take len room
+    → length room ≡ take_room
+    → Carries takings_in gives_in a b (taking_of port (λ place. ended) found room ∷ []) silence
+    → ComesWith takings_in gives_in old new b c
+    (datagram_effect (service_state old) b.totals port from bytes)
+    → TakesOnce takings_in gives_in old new a c port
+visited_datagram {W} {takings_in} {gives_in} {a} {b} {c} old new port ended found from len room
+    bytes some is front whole taken comes =
+    visited_found old new port (λ place. ended) found from len room bytes some front whole
+    taken (subst (λ (e : Bool). ComesWith takings_in gives_in old new b c
+    (came_effect e (service_state old) b.totals port from bytes)) (sym is)
+    (record { loss = comes.loss; comes = comes.comes }))

@@ -3,7 +3,7 @@
 
 ghost use Rattle.std.specs.Prelude.{◌≡◌};
 ghost use Rattle.trdp_daemon.specs.Leases.{end_effect, ended_effect, has_run_out, is_silent};
-ghost use Rattle.trdp_daemon.specs.Leases.{is_silent_at, quiet_effect, silence_effect};
+ghost use Rattle.trdp_daemon.specs.Leases.{is_silent_at};
 ghost use Rattle.trdp_daemon.specs.Services.{ComesWith, IsSoundService, service_state};
 
 use crate::contact::{Contact, contact_of};
@@ -13,20 +13,6 @@ use trdp_engine::{Call, Event};
 use trdp_wire::{Port, Wire};
 
 impl Service {
-    /// Handles a take that found nothing at a port: at a control port the slot's application may
-    /// have been silent for too long.
-    pub(crate) fn take_nothing<W: Wire>(&mut self, port: Port, link: &mut Link<W>)
-        requires sound { IsSoundService self.old }
-        ensures sound { IsSoundService self.new }
-        ensures config { self.new.node.config ≡ self.old.node.config }
-        ensures comes { ComesWith W.takings W.gives self.old self.new link.old link.new
-            (quiet_effect (service_state self.old) port) }
-    {
-        if let Port::Control(slot) = port {
-            self.end_silence(slot, link);
-        }
-    }
-
     /// Whether the lease of the port's slot has run out by the reading of the turn; false at other
     /// ports. It also runs out if the daemon itself was stopped for that long.
     #[tactic(auto, unfolding(crate::specs::Leases::is_silent_at))]
@@ -46,20 +32,8 @@ impl Service {
         has_run_out(self.lease, self.reading, contact_of(&self.contacts, slot))
     }
 
-    /// Resets a slot for which the lease has run out, once for each silence.
-    fn end_silence<W: Wire>(&mut self, slot: u16, link: &mut Link<W>)
-        requires sound { IsSoundService self.old }
-        ensures sound { IsSoundService self.new }
-        ensures config { self.new.node.config ≡ self.old.node.config }
-        ensures comes { ComesWith W.takings W.gives self.old self.new link.old link.new
-            (silence_effect (service_state self.old) slot) }
-    {
-        if self.is_silent(slot) {
-            self.end(slot, link);
-        }
-    }
-
-    /// Handles the end of an application: at a control port that slot's has ended.
+    /// Handles the end of an application, or a silence that is too long: at a control port that
+    /// slot's has ended.
     pub(crate) fn take_end<W: Wire>(&mut self, port: Port, link: &mut Link<W>)
         requires sound { IsSoundService self.old }
         ensures sound { IsSoundService self.new }

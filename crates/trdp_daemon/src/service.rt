@@ -15,7 +15,7 @@ ghost use Rattle.trdp_daemon.specs.Services.{Comes, ComesTold, ComesWith, IsSoun
 ghost use Rattle.trdp_daemon.specs.Services.{TakesAtPorts, service_state};
 ghost use Rattle.trdp_daemon.specs.Questions.{frame_room, text_of_question};
 ghost use Rattle.trdp_daemon.specs.Turns.{begun, opened_service, take_room};
-ghost use Rattle.trdp_daemon.specs.Visits.{came_effect, control_effect, datagram_effect};
+ghost use Rattle.trdp_daemon.specs.Visits.{control_effect, datagram_effect};
 ghost use Rattle.trdp_daemon.specs.Visits.{operator_effect, question_effect};
 
 use crate::answer::{operator_text, refuse};
@@ -56,15 +56,6 @@ pub(crate) struct Service {
     text: Vec<u8>,
     /// The answer to a question of the operator, with room for any, so that none allocates.
     pub(crate) answer: Vec<u8>,
-}
-
-/// Who said what a take found.
-#[derive(Clone, Copy)]
-struct Speaker {
-    /// Where it came from.
-    from: Place,
-    /// Whether it is the end of the application there.
-    is_end: bool,
 }
 
 impl Service {
@@ -141,35 +132,14 @@ impl Service {
         let anew = self.is_silent_at(port);
         let (found, is_end) = link.take(port, anew, room);
         match found {
+            Ok(Some(_)) if is_end => self.take_end(port, link),
             Ok(Some((from, len))) => {
                 let (bytes, _) = room.split_at(len);
-                self.take_found(buffer, port, Speaker { from, is_end }, bytes, link);
+                self.take_datagram(buffer, port, from, bytes, link);
             }
-            Ok(None) => self.take_nothing(port, link),
+            Ok(None) if anew => self.take_end(port, link),
+            Ok(None) => {}
             Err(_) => {}
-        }
-    }
-
-    /// Takes what was found at a port: a datagram, or the end of its application.
-    fn take_found<W: Wire>(
-        &mut self,
-        buffer: &mut Vec<u8>,
-        port: Port,
-        speaker: Speaker,
-        bytes: &[u8],
-        link: &mut Link<W>,
-    )
-        requires sound { IsSoundService self.old }
-        ensures sound { IsSoundService self.new }
-        ensures config { self.new.node.config ≡ self.old.node.config }
-        ensures comes { ComesWith W.takings W.gives self.old self.new link.old link.new
-            (came_effect speaker.is_end (service_state self.old) link.old.totals port speaker.from
-            bytes.now) }
-    {
-        if speaker.is_end {
-            self.take_end(port, link);
-        } else {
-            self.take_datagram(buffer, port, speaker.from, bytes, link);
         }
     }
 
