@@ -1,5 +1,5 @@
 -- Which connections are there after more calls, and what stays true of one that was closed.
--- For both paths.
+-- For `Path`.
 -- By: who is closed is among the calls of both parts, as is who came.
 use Rattle.std.proofs.Common.{◌≡◌, ℕ, ◌+◌, ◌<◌, ◌≤◌, ◌==◌, ◌||◌, ◌++◌, ◌⊎◌, List, [], ◌∷◌}
 use Rattle.std.proofs.Common.{Bool, true, false, Option, Some, None, refl, ap, ◌∙◌, map}

@@ -1,5 +1,5 @@
 -- What calls bring, one after another.
--- For both paths.
+-- For `Path`.
 -- By: something is among all calls if it is among those of one part.
 use Rattle.std.proofs.Common.{◌≡◌, ℕ, ◌||◌, ◌++◌, List, [], ◌∷◌, Bool, true, false, map, refl, ap}
 use Rattle.std.proofs.Common.{sym, ◌∙◌, Option}

@@ -1,4 +1,4 @@
-//! What both paths have in common where a connection comes.
+//! The last number of a connection, and the refusal of a connection for which there is no room.
 
 ghost use Rattle.std.specs.Prelude.{◌≡◌};
 ghost use Rattle.trdp_lines.specs.Turns.{IsRefused};

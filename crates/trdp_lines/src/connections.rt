@@ -47,7 +47,7 @@ pub trait Connections {
     ghost use Rattle.std.specs.Prelude.{ℕ, List, Option};
     ghost use Rattle.trdp_lines.specs.Connections.{ConnectionCall};
 
-    /// What was asked of them, in order, with the answers; none where these report nothing.
+    /// What was asked of them, in order, with the answers; None if these report nothing.
     ghost calls: { Self → Option (List ConnectionCall) };
 
     /// The number of the path's file, which no call changes.
@@ -81,13 +81,13 @@ pub trait Connections {
         ensures kept { file_number self.new ≡ file_number self.old };
 
     /// The system's number of its error (errno) at the latest accept that failed; None before the
-    /// first, and where these keep none.
+    /// first, and if these keep none.
     fn accept_error(&self) -> Option<i32> {
         None
     }
 
-    /// The path's file, if it is gone: then nobody can connect any more. None where it is there,
-    /// and where these know no file.
+    /// The path's file, if it is gone: then nobody can connect any more. None if it is there, or if
+    /// these know no file.
     fn missing_file(&self) -> Option<&str> {
         None
     }

@@ -20,7 +20,7 @@ use std::marker::Model;
 /// A connection, or room for one.
 #[derive(Drop)]
 pub(crate) struct Conversation {
-    /// The number of the connection; None where there is none.
+    /// The number of the connection; None if there is none.
     number: Option<u64>,
     /// What came from it and isn't handed in.
     intake: Intake,
@@ -50,7 +50,7 @@ impl Conversation {
     /// Room for a connection.
     ///
     /// # Errors
-    /// [`AllocError`] where there is no memory for it.
+    /// [`AllocError`] if there is no memory for it.
     pub(crate) fn new(alloc: Global) -> Result<Conversation, AllocError>
         ensures { IfOk result (λ made. made ≡ conversation_of None) }
     {
@@ -65,7 +65,7 @@ impl Conversation {
         })
     }
 
-    /// The number of the connection; None where there is none.
+    /// The number of the connection; None if there is none.
     pub(crate) fn number(&self) -> Option<u64>
         ensures { result ≡ self.now.number }
     {
@@ -108,7 +108,8 @@ impl Conversation {
         Some(count)
     }
 
-    /// Whether it has ended, or says a line that is too long. No whole line of it is left.
+    /// Whether it has ended, or its line is too long. Only for a conversation of which no whole
+    /// line is left.
     pub(crate) fn is_done(&self) -> bool
         requires { has_line self.now.bytes ≡ false }
         ensures done { result ≡ is_done self.now }
@@ -156,8 +157,8 @@ impl Conversation {
         self.write(to, number);
     }
 
-    /// Writes what waits, and where that made room for the line that reports what was dropped,
-    /// that line too. So where something is left to be reported, something waits, and the system
+    /// Writes what waits. If that makes room for the line that reports what was dropped, it writes
+    /// that line too. So if something is left to be reported, something waits, and the system
     /// reports when the other side can take it.
     fn write<C: Connections>(&mut self, to: &mut C, number: u64)
         ensures written { HasWritten number [] self.old self.new (C.calls to.old) (C.calls to.new) }

@@ -46,7 +46,7 @@ impl Intake {
     /// No bytes, and room for a line.
     ///
     /// # Errors
-    /// [`AllocError`] where there is no memory for it.
+    /// [`AllocError`] if there is no memory for it.
     pub(crate) fn new(alloc: Global) -> Result<Intake, AllocError>
         ensures { IfOk result (λ intake. intake ≡ []) }
     {
@@ -83,8 +83,7 @@ impl Intake {
         self.end - self.begin >= LINE_ROOM
     }
 
-    /// Reads once from the connection of that number, to the end of the bytes and into all the
-    /// room that is left.
+    /// Reads once from the connection of that number, into all the room after the bytes.
     pub(crate) fn fill<C: Connections>(&mut self, from: &mut C, number: u64) -> Came
         requires { length self.old < intake_room }
         ensures count { CameWithin (intake_room - length self.old) result }
@@ -132,7 +131,7 @@ impl Intake {
     }
 }
 
-/// How many bytes the first line has, where `seen` bytes at the front have no end of a line.
+/// How many bytes the first line has, if `seen` bytes at the front have no end of a line.
 fn first_line_of(bytes: &[u8], seen: usize) -> Option<usize>
     requires within { seen ≤ length bytes.now }
     requires unended { has_line (take seen bytes.now) ≡ false }

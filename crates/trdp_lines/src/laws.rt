@@ -16,8 +16,8 @@ pub fn bytes_are_lines_and_rest()
     ensures rest { (bytes : List ℕ) → IsUnended (rest_of bytes) }
 {}
 
-/// Whole lines come one by one: where the end of a line is there, the first line comes first, and
-/// the lines after it come next. Where none is there, there is no whole line.
+/// Whole lines come one by one: if the end of a line is there, the first line comes first, and the
+/// lines after it come next. If none is there, there is no whole line.
 pub fn lines_come_one_by_one()
     ensures split { (bytes : List ℕ) → has_line bytes ≡ true
         → bytes ≡ first_line bytes ++ line_end ∷ behind_line bytes }
@@ -43,7 +43,7 @@ pub fn each_line_is_handed_in()
 
 /// Whatever the other side takes and when, it gets the texts that were pushed, each whole, in
 /// their order; in the place of some that were dropped it gets a line that says how many. This
-/// holds where no more texts are pushed than can be counted.
+/// holds if no more texts are pushed than can be counted.
 pub fn texts_go_whole()
     ensures { (steps : List OutgoingStep) → length (texts_of steps) ≤ lost_limit
         → GoesWhole steps }

@@ -23,7 +23,7 @@
 //! A connection has two halves: the bytes that came in and aren't handed in yet, and those that
 //! wait to go out. Both allocate all memory that they ever need when they are made.
 //!
-//! Proved, where the connections report what was asked of them: what is handed in is what
+//! Proved, if the connections report what was asked of them: what is handed in is what
 //! applications said by these reports, each line once and in order, cut to the room. The end of
 //! each comes after its last line and before any line of a later one. Of an operator its lines are
 //! handed in, each once and in order. Each connection that comes has the next number, which no
@@ -31,25 +31,32 @@
 //!
 //! A connection that came has a seat, or waits, or it was closed. It is closed when it is over. At
 //! a control port it is also closed if it has said no line and a later one is there, or after
-//! `busy` if an application lives that came before it. Before both, a read found that the one that
-//! spoke goes on. So a connection that never says a line gives way to the next one. At the
-//! operator's port a connection is closed after `busy` if each of the four seats is taken. No
-//! connection that has a seat was closed.
+//! `busy` if an application lives that came before it. Right before that, a read from the one that
+//! has the seat found no byte: the connection that gives way, or the application that lives. So a
+//! connection that never says a line gives way to the next one. At the operator's port a connection
+//! is closed after `busy` if each of the four seats is taken. No connection that has a seat was
+//! closed.
 //!
 //! A take that finds nothing has asked for the next connection, unless one waits or the last number
-//! was given, and read from those that have a seat; none of these is over. If no call of it brought
-//! anything, none waits after it: the one that waited has the seat, or was closed. A take asks the
-//! seats in turn, from the one after that at which the take before found something, if it did.
-//! Each connection that it passes on the way to a text was read from, and has nothing left. So no
-//! operator keeps another from being heard. A take and a give write to a connection at least once
-//! if something waits for it. Where nothing is heard at a take, no call of the connections brought
-//! anything, and none waited.
+//! was given. It has read from each that has a seat, or from the one before it there, which it
+//! closed; none that has a seat is over. If no call of it brought anything, none waits after it:
+//! the one that waited has the seat, or was closed.
 //!
-//! If connections report nothing, as the system's don't, only the clauses about their numbers hold
-//! of them. No contract says how much a write offers, what else a take writes, that it keeps what
-//! waits, how often it reads from one connection, what the other side sends and takes, nor that a
-//! search for the end of a line begins where the search before it ended. The tests of `clients/`
-//! try the first three. [`Path::new`] may always answer that there is no memory.
+//! A take asks the seats in turn. If the take before found something, it begins at the seat after
+//! that. Each connection that it passes on the way to a text was read from, and has nothing left.
+//! So no operator keeps another that has a seat from being heard. If something waits for a
+//! connection, a take writes to it at least once, and so does a give to it. If nothing is heard at
+//! a take, no call of the connections brought anything, and none waited.
+//!
+//! If connections report nothing, as the system's don't, no clause says what was asked of them or
+//! what they answered. The clauses still say which numbers a path gives, at which seat a take finds
+//! a text and where the next take begins, what it returns after an end (`gone`), that no whole line
+//! is left if it finds nothing, and what a give adds or drops.
+//!
+//! No contract says how much a write offers, what else a take writes, that it keeps what waits, how
+//! often it reads from one connection, what the other side sends and takes, nor that a search for
+//! the end of a line begins where the search before it ended. The tests of `clients/` try the first
+//! three. [`Path::new`] may always answer that there is no memory.
 #![tactic(auto)]
 
 mod admission;

@@ -48,7 +48,7 @@ impl Outgoing {
     /// Nothing waits, and there is all room that it ever needs.
     ///
     /// # Errors
-    /// [`AllocError`] where there is no memory for it.
+    /// [`AllocError`] if there is no memory for it.
     pub(crate) fn new(alloc: Global) -> Result<Outgoing, AllocError>
         ensures { IfOk result (λ outgoing. outgoing ≡ no_outgoing) }
     {
@@ -77,7 +77,7 @@ impl Outgoing {
     }
 
     /// Puts a text after what waits, if no dropped text is unreported and there is room for all of
-    /// it; else the text is dropped and counted. What was dropped before is reported first, where
+    /// it; else the text is dropped and counted. What was dropped before is reported first, if
     /// there is room. Returns whether the text waits.
     #[tactic(auto, unfolding(crate::specs::Outgoings::with_text))]
     pub(crate) fn push(&mut self, text: &[u8]) -> bool

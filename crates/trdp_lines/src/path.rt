@@ -27,7 +27,7 @@ pub struct Path<C: Connections, P: Policy> {
     /// The seats, each of a connection, or free.
     seats: Vec<Conversation>,
     /// The number of the one that waits for a seat, unread until it is known whether the one that
-    /// has it lives; None where none waits.
+    /// has it lives; None if none waits.
     waiting: Option<u64>,
     /// How many connections came, which is the number of the latest.
     came: u64,
@@ -79,7 +79,7 @@ impl<C: Connections, P: Policy> Path<C, P> {
     /// allocated here.
     ///
     /// # Errors
-    /// The connections come back where there is no memory.
+    /// The connections come back if there is no memory.
     pub fn new(alloc: Global, connections: C) -> Result<Path<C, P>, C>
         requires { IfSome (C.calls connections) (λ calls. calls ≡ []) }
         ensures made { IfOk result (λ path. path ≡ new_path P.rule connections) }
@@ -107,9 +107,7 @@ impl<C: Connections, P: Policy> Path<C, P> {
         &self.connections
     }
 
-    /// Whether the connection of that number has a seat: that of an application speaks. One of
-    /// which a line was handed in speaks no more from its end on, which is handed in after its last
-    /// line.
+    /// Whether the connection of that number has a seat. It has none once its end was returned.
     pub fn speaks(&self, number: u64) -> bool
         ensures { result ≡ has_seat number self.now.seats }
     {
@@ -130,13 +128,15 @@ impl<C: Connections, P: Policy> Path<C, P> {
     /// Hands in the next line of a connection without its end, or the line `reset` after the last
     /// one of an application that has ended. It is put at the front of the room, cut to it; the
     /// result is the number of the connection and how many bytes the line has there. None says that
-    /// all that came is handed in. It accepts one connection at most, reads once at most from each
-    /// that has a seat, and writes to each what waits for it. It begins after the one that was asked
-    /// last. Where nothing is heard at it, neither a connection nor anything of one came. Where no
-    /// call of it brings anything and it finds nothing, none waits after it.
+    /// no whole line is left of what was read.
+    ///
+    /// It accepts one connection at most, reads once at most from each that has a seat, and writes
+    /// to each what waits for it. It begins after the one that was asked last. If a take hears
+    /// nothing, no connection came, and nothing came from one. If no call of it brings anything and
+    /// it finds nothing, no connection waits after it.
     ///
     /// # Errors
-    /// [`AcceptFault`] where nothing is there and the system refuses the next connection.
+    /// [`AcceptFault`] if nothing is there and the system refuses the next connection.
     pub fn take(&mut self, room: &mut [u8]) -> Result<Option<(u64, usize)>, AcceptFault>
         ensures within { IfOk result (λ found. IfSome found (λ f. f.1 ≤ length room.new)) }
         ensures next { IfOk result (λ found.
@@ -192,7 +192,7 @@ impl<C: Connections, P: Policy> Path<C, P> {
     /// side takes it. To any other it says nothing.
     ///
     /// # Errors
-    /// [`LostText`] where it finds no room after what waits already: it is dropped whole. A line
+    /// [`LostText`] if it finds no room after what waits already: it is dropped whole. A line
     /// `lost N` says in its place how many were, as soon as it finds room.
     pub fn give(&mut self, number: u64, text: &[u8]) -> Result<(), LostText>
         ensures says { SaysToSeat (C.calls self.old.connections) (C.calls self.new.connections)
@@ -227,11 +227,11 @@ impl<C: Connections, P: Policy> Path<C, P> {
         let _ = &self.seats;
     }
 
-    /// Accepts the next connection, if none waits. It gets a free seat. Where none is free that of
-    /// an application waits, and that of an operator is sent `busy` and closed.
+    /// Accepts the next connection, if none waits. It gets a free seat. If none is free, an
+    /// application's connection waits, and an operator's is sent `busy` and closed.
     ///
     /// # Errors
-    /// [`AcceptFault`] where the system refuses it.
+    /// [`AcceptFault`] if the system refuses it.
     fn admit(&mut self) -> Result<(), AcceptFault>
         ensures hands_in { HandsInTexts P.rule
             (C.calls self.old.connections) (C.calls self.new.connections)

@@ -11,7 +11,7 @@ use std::alloc::{AllocError, Global};
 /// So many seats, each of no connection.
 ///
 /// # Errors
-/// [`AllocError`] where there is no memory for them.
+/// [`AllocError`] if there is no memory for them.
 pub(crate) fn free_seats_in(alloc: Global, count: usize) -> Result<Vec<Conversation>, AllocError>
     ensures { IfOk result (λ seats. seats.items ≡ replicate count free_seat) }
 {

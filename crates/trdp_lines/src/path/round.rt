@@ -103,7 +103,7 @@ impl<C: Connections, P: Policy> Path<C, P> {
         None
     }
 
-    /// Hands in the next text of the seat at a place. Where none is there it is read from once
+    /// Hands in the next text of the seat at a place. If none is there, it is read from once
     /// before.
     fn ask(&mut self, place: usize, room: &mut [u8]) -> Option<(u64, usize)>
         requires { place < seats_at P.rule }
@@ -128,8 +128,8 @@ impl<C: Connections, P: Policy> Path<C, P> {
         self.next_text(place, room)
     }
 
-    /// Hands in what is left of the seat at a place, without a read. Where its connection is over
-    /// and all of it handed in, the one that waits has the seat from then on.
+    /// Hands in what is left of the seat at a place, without a read. If its connection is over and
+    /// all of it handed in, the one that waits has the seat from then on.
     fn next_text(&mut self, place: usize, room: &mut [u8]) -> Option<(u64, usize)>
         requires { place < seats_at P.rule }
         ensures within { IfSome result (λ found. found.1 ≤ length room.new) }
@@ -184,8 +184,8 @@ impl<C: Connections, P: Policy> Path<C, P> {
         self.seats[place].begin(next);
     }
 
-    /// Reads once from the one that has the seat at a place. Where nothing is there it lives, and
-    /// the one that waits is decided.
+    /// Reads once from the one that has the seat at a place. If nothing is there, the connection
+    /// lives, and what becomes of the one that waits is decided.
     fn listen(&mut self, place: usize)
         requires within { place < seats_at P.rule }
         requires ready { IsReadyIf (seat_at self.old.seats place).number
