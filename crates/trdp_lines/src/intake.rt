@@ -59,14 +59,6 @@ impl Intake {
         })
     }
 
-    /// What holds of all that was read and not handed in: a law for callers, which does nothing
-    /// when it runs. It is never more than there is room for.
-    pub(crate) fn sound(&self)
-        ensures { length self.now ≤ intake_room }
-    {
-        let _ = &self.room;
-    }
-
     /// Drops all bytes.
     pub(crate) fn clear(&mut self)
         ensures { self.new ≡ [] }

@@ -130,14 +130,6 @@ impl Outgoing {
         went
     }
 
-    /// What holds of all that waits: a law for callers, which does nothing when it runs. It is
-    /// never more than there is room for.
-    pub(crate) fn sound(&self)
-        ensures { length self.now.waiting ≤ outgoing_room }
-    {
-        let _ = &self.waiting;
-    }
-
     /// Whether a text finds room.
     fn has_room(&self, text: &[u8]) -> bool
         ensures { result ≡ finds_room self.now text.now }
