@@ -9,7 +9,8 @@ use Rattle.std.proofs.lemmas.Bool.{eq-eqb, cases_lt}
 use Rattle.trdp_lines.specs.declared.connections.Accepted.{Accepted}
 use Rattle.trdp_lines.specs.declared.rule.Rule.{Rule}
 use Rattle.trdp_lines.specs.declared.rule.Rule.TheVariants.{Application, Operators}
-use Rattle.trdp_lines.specs.Askings.{AsksAll, AsksNext, AsksPlaces, HadTurn, IsTurnOf, Listens}
+use Rattle.trdp_lines.specs.Askings.{AsksAll, AsksFor, AsksNext, AsksPlaces, HadTurn}
+use Rattle.trdp_lines.specs.Askings.{IsTurnOf, Listens}
 use Rattle.trdp_lines.specs.Askings.{MayCome, NoneFails, ReadsAll, TakesSeat, TriesAll, TriesOne}
 use Rattle.trdp_lines.specs.Askings.{WasClosed, asks_for, fails, accept_failed, is_failed}
 use Rattle.trdp_lines.specs.Askings.{reads_from}
@@ -148,6 +149,17 @@ asks_accept calls calls_then may came answer fault behind told same unfailed = r
       (only_same (came + 1));
   failed = among_once fails (Accepts (came + 1) answer ∷ []) behind unfailed
       ∙ or_false (is_failed answer) ∙ same;
+}
+
+-- the next connection was asked for, whatever was asked after that
+pub accepts_next : (one two three : Option (List ConnectionCall)) (may : Type 0) (came : ℕ)
+    (fault : Bool) (behind : List ConnectionCall) → AsksNext one two may came fault
+    → TellsMore two three behind → may → came < last_connection_number
+    → AsksFor (came + 1) one three
+accepts_next one two three may came fault behind next told can low = record {
+  more = next.more ++ behind;
+  told = told_next one two three next.more behind next.told told;
+  asked = among_first (asks_for (came + 1)) next.more behind (next.accepts can low);
 }
 
 -- of no place

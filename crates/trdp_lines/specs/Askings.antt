@@ -1,4 +1,4 @@
--- What a take that finds nothing has asked of the connections at a path.
+-- What a take has asked of the connections at a path, and what else if it finds nothing.
 use Rattle.std.specs.Prelude.{◌≡◌, ℕ, ◌+◌, ◌<◌, ◌≤◌, ◌==◌, ◌≢◌, ◌⊎◌, Bool, true, false, List, []}
 use Rattle.std.specs.Prelude.{Option, Some, None, Result, Ok, Err, is_some}
 use Rattle.std.specs.List.{list_any}
@@ -138,6 +138,12 @@ pub record AsksNext (calls calls_then : Option (List ConnectionCall)) (may : Typ
   pub told : TellsMore calls calls_then more
   pub accepts : may → came < last_connection_number → was_asked_for (came + 1) more ≡ true
   pub failed : accept_failed more ≡ fault
+
+-- between these calls the connection of this number was asked for
+pub record AsksFor (number : ℕ) (calls calls_then : Option (List ConnectionCall)) : Type 0 where
+  pub more : List ConnectionCall
+  pub told : TellsMore calls calls_then more
+  pub asked : was_asked_for number more ≡ true
 
 -- the connection of this number was read from; or, if one waited, the one in whose place it is
 abbrev pub HadTurn : (waiting : Option ℕ) → ℕ → List ConnectionCall → Type 0

@@ -37,10 +37,11 @@
 //! is closed after `busy` if each of the four seats is taken. No connection that has a seat was
 //! closed.
 //!
-//! A take that finds nothing has asked for the next connection, unless one waits or the last number
-//! was given. It has read from each that has a seat, or from the one before it there, which it
-//! closed; none that has a seat is over. If no call of it brought anything, none waits after it:
-//! the one that waited has the seat, or was closed.
+//! Each take asks for the next connection, unless one waits or the last number was given. So no
+//! connection keeps another from a free seat. A take that finds nothing has also read from each
+//! that has a seat, or from the one before it there, which it closed; none that has a seat is over.
+//! If no call of it brought anything, none waits after it: the one that waited has the seat, or was
+//! closed.
 //!
 //! A take asks the seats in turn. If the take before found something, it begins at the seat after
 //! that. Each connection that it passes on the way to a text was read from, and has nothing left.

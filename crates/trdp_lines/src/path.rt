@@ -60,14 +60,15 @@ impl<C: Connections, P: Policy> Model for Path<C, P> {
 
 impl<C: Connections, P: Policy> Path<C, P> {
     ghost use Rattle.std.specs.Prelude.{◌≡◌, ◌≤◌, [], length, take, false, is_err, is_some, ◌||◌};
-    ghost use Rattle.std.specs.Prelude.{IfOk, IfErr, IfSome, None};
+    ghost use Rattle.std.specs.Prelude.{IfOk, IfErr, IfSome, None, ◌+◌, ◌<◌};
     ghost use Rattle.trdp_lines.specs.Askings.{AsksAll, AsksNext, IfNothing, MayCome, ReadsAll};
-    ghost use Rattle.trdp_lines.specs.Askings.{TriesAll};
+    ghost use Rattle.trdp_lines.specs.Askings.{AsksFor, TriesAll};
     ghost use Rattle.trdp_lines.specs.Closings.{AreThere};
     ghost use Rattle.trdp_lines.specs.Comings.{AcceptsAtMostOne};
     ghost use Rattle.trdp_lines.specs.Fates.{KeepTaken};
     ghost use Rattle.trdp_lines.specs.Hearings.{Decides, Hears, IsQuiet, has_found, waits_at};
     ghost use Rattle.trdp_lines.specs.Orders.{IsInTurn};
+    ghost use Rattle.trdp_lines.specs.Paths.{last_connection_number};
     ghost use Rattle.trdp_lines.specs.Said.{reset_line};
     ghost use Rattle.trdp_lines.specs.Seatings.{IsPath};
     ghost use Rattle.trdp_lines.specs.Seats.{HandsInTexts, NothingLeft, StaysLeft, is_seated};
@@ -167,6 +168,9 @@ impl<C: Connections, P: Policy> Path<C, P> {
         ensures read { self.new.heard ≡ false → ReadsAll
             (C.calls self.old.connections) (C.calls self.new.connections) self.new.seats }
         ensures kept { C.file_number self.new.connections ≡ C.file_number self.old.connections }
+        ensures accepts { MayCome P.rule self.old.waiting
+            → self.old.came < last_connection_number → AsksFor (self.old.came + 1)
+            (C.calls self.old.connections) (C.calls self.new.connections) }
     {
         // One that waits is decided in this take, or speaks from then on: more may come after it.
         self.heard |= self.waiting.is_some();

@@ -1,6 +1,6 @@
 use Rattle.std.proofs.Common.{◌∙◌, ◌++◌, [], false, true, length}
 use Rattle.trdp_lines.specs.Seats.{PathState, is_seated}
-use Rattle.trdp_lines.proofs.AskingLemmas.{asks_all, reads_all, tries_all}
+use Rattle.trdp_lines.proofs.AskingLemmas.{accepts_next, asks_all, reads_all, tries_all}
 use Rattle.trdp_lines.proofs.BetweenLemmas.{told_next}
 use Rattle.trdp_lines.proofs.ClosingLemmas.{there_of}
 use Rattle.trdp_lines.proofs.ComingLemmas.{comes_then, served_step}
@@ -68,6 +68,15 @@ returns-in-Some-clause-tried g c =
     let tried = tries_all _ _ _ _ _ _ _ _ _ _ _ c.admit-admitted.new.self.seats
     c.admit-admitted.ensures.asked c.admit-admitted.ensures.taken c.flush.ensures.tried rest in
     rw (← c.self.view_is) (rw (← c.self-2.view_is) at tried)
+
+pub returns-in-Some-clause-accepts : goal.returns-in-Some-clause-accepts
+returns-in-Some-clause-accepts g c =
+    let goes = c.flush.ensures.goes in
+    let rest = c.in-Some.ensures.finds.goes in
+    let accepts = accepts_next _ _ _ _ _ _ (goes.more ++ rest.more)
+    c.admit-admitted.ensures.asked
+    (told_next _ _ _ goes.more rest.more goes.told rest.told) in
+    rw (← c.self.view_is) (rw (← c.self-2.view_is) at accepts)
 
 pub returns-in-Some-clause-heard : goal.returns-in-Some-clause-heard
 returns-in-Some-clause-heard g c =
@@ -184,6 +193,22 @@ returns-in-Err-clause-tried g c =
     c.next_of_all.new.self [] c.in-None.ensures.finds in
     rw (← c.self.view_is) (tries_all _ _ _ _ _ _ _ _ _ _ _ c.admit-admitted.new.self.seats
     c.admit-admitted.ensures.asked c.admit-admitted.ensures.taken c.flush.ensures.tried rest)
+
+pub returns-in-Ok-clause-accepts : goal.returns-in-Ok-clause-accepts
+returns-in-Ok-clause-accepts g c =
+    let goes = c.flush.ensures.goes in
+    let rest = c.in-None.ensures.finds in
+    rw (← c.self.view_is) (accepts_next _ _ _ _ _ _ (goes.more ++ rest.more)
+    c.admit-admitted.ensures.asked
+    (told_next _ _ _ goes.more rest.more goes.told rest.told))
+
+pub returns-in-Err-clause-accepts : goal.returns-in-Err-clause-accepts
+returns-in-Err-clause-accepts g c =
+    let goes = c.flush.ensures.goes in
+    let rest = c.in-None.ensures.finds in
+    rw (← c.self.view_is) (accepts_next _ _ _ _ _ _ (goes.more ++ rest.more)
+    c.admit-admitted.ensures.asked
+    (told_next _ _ _ goes.more rest.more goes.told rest.told))
 
 pub returns-in-Ok-clause-asked : goal.returns-in-Ok-clause-asked
 returns-in-Ok-clause-asked g c = rw (← c.self.view_is) (asks_all g.P.Policy.rule
