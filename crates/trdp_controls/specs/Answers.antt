@@ -22,19 +22,19 @@ abbrev pub listen_fault_of : ErrorKind → ListenFault
 listen_fault_of kind.OutOfMemory = OutOfMemory
 listen_fault_of _ = Refused
 
--- what it means that a system accepts no connection, with an error of this kind: where it would
--- have to wait, none is there
+-- what it means that a system accepts no connection, with an error of this kind: if it would have
+-- to wait, none is there
 abbrev pub unaccepted_of : ErrorKind → Accepted
 unaccepted_of kind.WouldBlock = NobodyCame
 unaccepted_of _ = Failed
 
--- what a read of that many bytes finds: the stream has ended where it read none
+-- what a read of that many bytes finds: the stream has ended if it read none
 abbrev pub count_came : ℕ → Came
 count_came zero = Ended
 count_came (suc n) = Bytes (suc n)
 
--- what a read finds that fails with an error of this kind: nothing where it would have to wait or
--- was interrupted, and else the stream has ended
+-- what a read finds that fails with an error of this kind: nothing if it would have to wait or was
+-- interrupted, and else the stream has ended
 abbrev pub unread_of : ErrorKind → Came
 unread_of kind.WouldBlock = Nothing
 unread_of kind.Interrupted = Nothing
@@ -50,8 +50,8 @@ abbrev pub count_went : ℕ → Went
 count_went zero = TookNone
 count_went (suc n) = Took (suc n)
 
--- what a write does that fails with an error of this kind: nothing where it would have to wait or
--- was interrupted, and else the stream has ended
+-- what a write does that fails with an error of this kind: nothing if it would have to wait or was
+-- interrupted, and else the stream has ended
 abbrev pub unwritten_of : ErrorKind → Went
 unwritten_of kind.WouldBlock = TookNone
 unwritten_of kind.Interrupted = TookNone

@@ -34,8 +34,8 @@ found_in (Err fault) = None
 abbrev pub found_place : ℕ × ℕ → Place × ℕ
 found_place found = (place_of_number found.0, found.1)
 
--- a take at one of the network's ports is a take of the network, which hands in the end of an
--- application or not; it fails where that did, unless the count of failures is at its last value
+-- a take at one of the network's ports is a take of the network, which finds the end of an
+-- application or not; it fails if that did, unless the count of failures is at its last value
 pub record TakesOverNetwork (takings takings_then : Option (List Taking)) (port : Port)
     (ended : Bool) (result : Result (Option (Place × ℕ)) WireFault)
     (room_then : List ℕ) (failures : ℕ) : Type 0 where
@@ -56,7 +56,7 @@ abbrev pub control_at : {C : Type 0} → List (Option (PathState C)) → ℕ →
 control_at controls slot = slice_index_or controls slot None
 
 -- a take at a path handed in what is next there, from the place of the connection that says it;
--- it fails where the system refused a connection and nothing is there, unless the count of failures
+-- it fails if the system refused a connection and nothing is there, unless the count of failures
 -- is at its last value. Whether something was heard there
 pub record TakesText {C : Type 0} (rule : Rule) (calls_of : C → Option (List ConnectionCall))
     (path path_then : PathState C) (room : ℕ) (result : Result (Option (Place × ℕ)) WireFault)
@@ -113,7 +113,7 @@ pub record SaysAtControl {C : Type 0} (calls_of : C → Option (List ConnectionC
   pub says : SaysAtPath calls_of (control_at controls slot) path_then to text result
   pub others : controls_then ≡ slice_set controls slot path_then
 
--- the same, where a text that is lost is a fault, unless the count of failures is at its last value
+-- the same, and a text that is lost is a fault, unless the count of failures is at its last value
 pub record GivesAtControl {C : Type 0} (calls_of : C → Option (List ConnectionCall)) (slot : ℕ)
     (controls controls_then : List (Option (PathState C))) (to : Place) (text : List ℕ)
     (result : Result (Unit {0}) WireFault) (failures : ℕ) : Type 0 where
@@ -128,7 +128,7 @@ abbrev pub TakesAtOperator : {C : Type 0} → (calls_of : C → Option (List Con
     → (failures : ℕ) → Type 0
 TakesAtOperator = TakesAtPath Operators
 
--- a text was said at the operator's path, where a text that is lost is a fault, unless the count of
+-- a text was said at the operator's path; a text that is lost is a fault, unless the count of
 -- failures is at its last value
 pub record GivesAtOperator {C : Type 0} (calls_of : C → Option (List ConnectionCall))
     (operator operator_then : Option (PathState C)) (to : Place) (text : List ℕ)
@@ -152,14 +152,14 @@ pub record IsUnasked {N : Type 0} (takings_in : N → Option (List Taking))
   pub news : (other : Port) → are_apart port other ≡ true
       → news_in network_then other ≡ news_in network other
 
--- whether more may be at a port is noted, where it is looked at anew or nothing may be there; else
--- its news stay
+-- whether more may be at a port is noted if it is looked at anew or nothing may be there; else its
+-- news stays
 abbrev pub NotesIf : Bool → (may_be old new : Bool) → Type 0
 NotesIf true may_be old new = IsNoted may_be old new
 NotesIf false may_be old new = new ≡ old
 
 -- a take at the path of a port that was looked at, anew or not, if it is there: more may be there
--- where something was heard, or it failed. The wire has heard something where the path did
+-- if something was heard, or it failed. The wire has heard something if the path did
 pub record HearsAtPath {N C : Type 0} (news_in : N → Port → Bool) (there : Type 0)
     (anew : Bool) (port : Port) (fault heard : Bool) (old new : ControlWire N C) : Type 0 where
   pub hears : new.heard ≡ old.heard || heard
@@ -210,9 +210,9 @@ TakesTelegram takings_in old new port result ended room_then =
     × (new.heard ≡ old.heard)
 
 -- a take at a port: of the network, or at the operator's path or that of a slot, and nowhere else;
--- at a path that isn't looked at nothing is asked, and nothing found. It hands in the end of an
--- application where the network's take does, or where what came at the path of a slot is from a
--- connection that speaks no more
+-- at a path that isn't looked at nothing is asked, and nothing found. It finds the end of an
+-- application if the network's take does, or if what came at the path of a slot is from a
+-- connection that has no seat any more
 abbrev pub TakesAtPort : {N C : Type 0} → (takings_in : N → Option (List Taking))
     → (gives_in : N → Option (List Give)) → (news_in : N → Port → Bool)
     → (calls_of : C → Option (List ConnectionCall))
@@ -241,8 +241,8 @@ TakesAtPort takings_in gives_in news_in calls_of looks anew old new (Control slo
     × (ended ≡ stands_for_end (has_ended_at (control_at new.controls.items slot))
     (arrived_in result room_then)))
 
--- a rest is one of the network, of no time where something was heard at a path since the rest
--- before: more may be there
+-- a rest is one of the network, of no time if something was heard at a path since the rest before:
+-- more may be there
 pub record RestsOverNetwork {N C : Type 0} (rested_in : N → N → ℕ → Type 0)
     (old new : ControlWire N C) (most : ℕ) : Type 0 where
   pub rests : rested_in old.network new.network (if old.heard then 0 else most)

@@ -19,7 +19,7 @@ pub data Listening : Type 0 where
 abbrev pub granted : ℕ → Listening
 granted number = ListensAt number None
 
--- the file of a port of that number; none where it is 0
+-- the file of a port of that number; none if it is 0
 abbrev pub file_unless_0 : ℕ → List ℕ
 file_unless_0 zero = []
 file_unless_0 (suc n) = suc n ∷ []
@@ -56,7 +56,7 @@ abbrev pub ListensInTurn : List ℕ → Option ListenFault → Option (List List
 ListensInTurn files None old new = TellsMore old new (map granted files)
 ListensInTurn files (Some fault) old new = StopsListening files fault old new
 
--- the path of a port's file in a folder; None where the port's number is 0
+-- the path of a port's file in a folder; None if the port's number is 0
 abbrev pub path_unless_0 : List ℕ → ℕ → Option (List ℕ)
 path_unless_0 folder zero = None
 path_unless_0 folder (suc n) = Some (path_of folder (suc n))

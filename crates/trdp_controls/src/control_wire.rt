@@ -29,9 +29,9 @@ const NO_BUFFER_SPACE: SocketFault = SocketFault { code: Some(105) };
 pub struct ControlWire<N: Wire, C: Connections> {
     /// The wire of the network, with the ports of process data and message data.
     pub(crate) network: N,
-    /// The path of the operator's port; None where the configuration names none.
+    /// The path of the operator's port; None if the configuration names none.
     pub(crate) operator: Option<OperatorPath<C>>,
-    /// The path of the control port of each slot, at the slot's index; None where the
+    /// The path of the control port of each slot, at the slot's index; None if the
     /// configuration names none.
     pub(crate) controls: Vec<Option<ControlPath<C>>>,
     /// How often a take or a give failed, at most 2^64 - 1.
@@ -59,7 +59,7 @@ impl<N: WatchedWire, C: Connections> ControlWire<N, C> {
     /// Takes the next datagram at a port of the network, as [`Wire::find`] does.
     ///
     /// # Errors
-    /// `WireFault`, where the network fails.
+    /// `WireFault` if the network fails, and the count of failures rose.
     fn find_telegram(
         &mut self,
         port: Port,
@@ -118,7 +118,8 @@ impl<N: WatchedWire, C: Connections> ControlWire<N, C> {
     /// Takes the next line of the application of a slot, or its end.
     ///
     /// # Errors
-    /// `WireFault`, where nothing is there and the system refuses the next connection.
+    /// `WireFault` if nothing is there, the system refuses the next connection, and the count of
+    /// failures rose.
     fn take_control(
         &mut self,
         slot: u16,
@@ -175,8 +176,8 @@ impl<N: WatchedWire, C: Connections> ControlWire<N, C> {
     }
 
     /// Notes the result of a take at a path: whether more may be there, and whether something was
-    /// heard. Where nothing may be there, that holds up to the next news of it; a take that failed
-    /// is made again. No other port's news change.
+    /// heard. If nothing may be there, the port isn't asked again before its next news. A take that
+    /// failed is repeated. The news of the other ports doesn't change.
     fn note(&mut self, port: Port, anew: bool, may_be: bool, heard: bool)
         ensures network { IsUnasked N.takings N.gives N.news port self.old.network
             self.new.network }
@@ -197,7 +198,7 @@ impl<N: WatchedWire, C: Connections> ControlWire<N, C> {
     /// Gives a datagram to the network.
     ///
     /// # Errors
-    /// `WireFault`, where the network fails.
+    /// `WireFault` if the network fails, and the count of failures rose.
     fn give_telegram(&mut self, port: Port, to: Place, bytes: &[u8]) -> Result<(), WireFault>
         ensures gives { GivesOverNetwork (N.gives self.old.network) (N.gives self.new.network)
             port to bytes.now result self.old.failures }
@@ -215,11 +216,11 @@ impl<N: WatchedWire, C: Connections> ControlWire<N, C> {
         }
     }
 
-    /// The answer of a give at a path to what became of its text. One that was lost, because there
-    /// is no room for it, is counted and kept as the latest refusal.
+    /// The answer of a give at a path to what became of its text. A text that was lost, because
+    /// there is no room for it, is counted and kept as the latest refusal.
     ///
     /// # Errors
-    /// `WireFault`, where the count of failures rose.
+    /// `WireFault` if the text was lost, and the count of failures rose.
     fn count_lost(
         &mut self,
         said: Result<(), LostText>,
@@ -344,7 +345,7 @@ impl<N: WatchedWire, C: Connections> WatchedWire for ControlWire<N, C> {
         ensures rests { RestsOverNetwork N.rested self.old self.new most }
         ensures fault { self.new.failures ≡ self.old.failures }
     {
-        // More may be where something was heard: then no time is left for the network to wait.
+        // Where something was heard, more may be there: so the network has no time to wait.
         let most = if self.heard { 0 } else { most };
         self.heard = false;
         self.network.rest(most);

@@ -16,7 +16,7 @@ pub trait Folder<C: Connections> {
     ghost use Rattle.std.specs.Prelude.{ℕ, List, Option};
     ghost use Rattle.trdp_controls.specs.Folders.{Listening};
 
-    /// What was asked of it, in order, with the answers; none where this folder reports nothing.
+    /// What was asked of it, in order, with the answers; None if this folder reports nothing.
     ghost listenings: { Self → Option (List Listening) };
 
     /// The path of the folder.
@@ -31,11 +31,11 @@ pub trait Folder<C: Connections> {
         ensures asks_nothing { listenings self.new ≡ listenings self.old }
         ensures stays { path self.new ≡ path self.old };
 
-    /// Listens at the file of that number: the answer is what comes in there, which nothing did
-    /// yet. The system reports what comes by the number of the socket that the port would have.
+    /// Listens at the file of that number, and returns the connections there; none has come yet.
+    /// The system reports them under the number of the socket that the port would have.
     ///
     /// # Errors
-    /// [`ListenFault`] where no process listens there then.
+    /// [`ListenFault`] if the system refuses the file, or memory runs out.
     fn listen(&mut self, number: u16, socket: usize) -> Result<C, ListenFault>
         ensures told { TellsMore (listenings self.old) (listenings self.new)
             (ListensAt number (fault_of_result result) ∷ []) }

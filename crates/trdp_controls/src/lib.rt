@@ -21,26 +21,26 @@
 //! one else ever could, since the file comes with no wider mode.
 //!
 //! The system reports what comes at a path to the network's wire, by the number of the socket that
-//! the port would have. A take at a path of which there are no news asks nothing.
+//! the port would have. A take at a path of which there is no news asks nothing.
 //!
 //! If a socket's file is removed while a node runs, nobody can connect there any more, since the
 //! system tells the listener nothing of it. The wire names such files (`Wire::missing`).
 //!
-//! `trdp_program` serves a node over this wire where it is given a folder.
+//! `trdp_program` serves a node over this wire if it is given a folder.
 //!
 //! **Proved**, for any network, folder and connections: which files are listened at, in which
 //! folder and in which order; what a take and a give at a port do on either side. A take at the
 //! control port of a slot is one at the path of that slot and at no other, and the place that a line
-//! comes from is the number of its connection. The news of a path end only where a take there
-//! neither heard anything nor failed; those of other paths stay. A rest of the wire is one of the
+//! comes from is the number of its connection. The news of a path ends only if a take there neither
+//! heard anything nor failed; the news of the other paths stays. A rest of the wire is one of the
 //! network, of no time if a path heard something since the rest before.
 //!
-//! **Tested** over daemons: that news end, as a network may keep none; by which number the system
-//! reports; that the files that are gone are named; and with which of the system's errors a take or
-//! a give fails.
+//! **Tested** over daemons: that news ends, as a network may keep none; by which number the system
+//! reports; which file at a path is replaced; that the files that are gone are named; and with
+//! which of the system's errors a take or a give fails.
 //!
-//! **Trusted**: the system. Each call here is one of the system's, with bounds and a reading of
-//! its answer.
+//! **Trusted**: the system. The functions that call it have clauses only for the bounds of a read
+//! and a write, and for what its answers mean.
 #![tactic(auto)]
 
 mod answers;

@@ -29,8 +29,8 @@ impl<N: WatchedWire + Drop, C: Connections + Drop> ControlWire<N, C> {
     /// They are the paths of a wire over that network. A port of the number 0 has no path.
     ///
     /// # Errors
-    /// At the first file at which it can't listen: that fault. `OutOfMemory` too where an
-    /// allocation for a path fails.
+    /// The fault of the first file at which it can't listen. `OutOfMemory` also if an allocation
+    /// for a path fails.
     pub fn open<F: Folder<C>>(
         alloc: Global,
         folder: &mut F,
@@ -66,7 +66,7 @@ impl<N: WatchedWire + Drop, C: Connections + Drop> ControlWire<N, C> {
 /// Listens at the files of the control ports of the slots, and of the spare ones.
 ///
 /// # Errors
-/// The fault of the first that is refused, and `OutOfMemory`.
+/// The fault of the first that is refused; `OutOfMemory` if an allocation fails.
 fn control_paths<C: Connections + Drop, F: Folder<C>>(
     alloc: Global,
     folder: &mut F,
@@ -91,7 +91,7 @@ fn control_paths<C: Connections + Drop, F: Folder<C>>(
 /// Listens at the file of a port, unless its number is 0: the path of the port.
 ///
 /// # Errors
-/// The folder's fault, and `OutOfMemory`.
+/// The folder's fault; `OutOfMemory` if an allocation fails.
 fn path_at<C: Connections + Drop, P: Policy + Drop, F: Folder<C>>(
     alloc: Global,
     folder: &mut F,

@@ -13,7 +13,7 @@ const PATH_MAX: usize = 107;
 /// name.
 ///
 /// # Errors
-/// `Refused` where it has more than 107 bytes, and `OutOfMemory`.
+/// `Refused` if it has more than 107 bytes; `OutOfMemory` if an allocation fails.
 pub fn socket_path(alloc: Global, folder: &str, number: u16) -> Result<String, ListenFault>
     ensures path { IfOk result (λ path. string_bytes path ≡ path_of folder.now number) }
     ensures fits { IfOk result (λ path. length (string_bytes path) ≤ 107) }

@@ -15,7 +15,7 @@ use trdp_wire::{Missing, SocketFault, WireFault, fail};
 /// What a take that failed finds: nothing, and the failure is counted.
 ///
 /// # Errors
-/// `WireFault`, where the count of failures rose.
+/// `WireFault` if the count of failures rose.
 pub(crate) fn nothing(failures: &mut u64) -> Result<Option<(Place, usize)>, WireFault>
     ensures found { IfOk result (λ found. found ≡ None) }
     ensures fails { is_err result ≡ nat_lt failures.old (2 ^ 64 - 1) }
@@ -27,7 +27,8 @@ pub(crate) fn nothing(failures: &mut u64) -> Result<Option<(Place, usize)>, Wire
 /// The answer of a take at a path to what the path does.
 ///
 /// # Errors
-/// `WireFault`, where nothing is there and the system refuses the next connection.
+/// `WireFault` if nothing is there, the system refuses the next connection, and the count of
+/// failures rose.
 fn answer_of(
     taken: Result<Option<(u64, usize)>, AcceptFault>,
     failures: &mut u64,
@@ -43,8 +44,8 @@ fn answer_of(
     }
 }
 
-/// Takes the next line at a path, or the end of its application; nothing ever comes where there is
-/// no path. Returns too whether something was heard there.
+/// Takes the next line at a path, or the end of its application; if there is no path, nothing ever
+/// comes. Also returns whether something was heard there.
 pub(crate) fn take_line<C: Connections, P: Policy>(
     path: &mut Option<Path<C, P>>,
     room: &mut [u8],
@@ -63,7 +64,8 @@ pub(crate) fn take_line<C: Connections, P: Policy>(
     (answer_of(taken, failures), heard)
 }
 
-/// Why the system refused the latest connection at a path; without a number where there is no path.
+/// Why the system refused the latest connection at a path. It has no number if there is no path,
+/// none was refused yet, or the error has none.
 pub(crate) fn accept_fault<C: Connections, P: Policy>(path: &Option<Path<C, P>>) -> SocketFault {
     let code = path
         .as_ref()
@@ -110,8 +112,8 @@ pub(crate) fn is_end_at<C: Connections>(
     matches!(found, Ok(Some((from, _))) if has_ended_at(controls, slot, from))
 }
 
-/// Whether the application of a slot that was at a place has ended: its connection speaks no more.
-/// False where there is no path.
+/// Whether the application of a slot that was at a place has ended: its connection has no seat any
+/// more. False if there is no path.
 fn has_ended_at<C: Connections>(
     controls: &[Option<ControlPath<C>>],
     slot: usize,
@@ -125,10 +127,10 @@ fn has_ended_at<C: Connections>(
     }
 }
 
-/// Says a text at a slot's path to the connection of the place, if that is the one that speaks.
+/// Says a text at a slot's path to the connection of the place, if it has a seat there.
 ///
 /// # Errors
-/// `LostText`, where there is no room for it.
+/// `LostText` if there is no room for it.
 pub(crate) fn give_text_at<C: Connections>(
     controls: &mut Vec<Option<ControlPath<C>>>,
     slot: usize,
@@ -148,7 +150,7 @@ pub(crate) fn give_text_at<C: Connections>(
 /// Says a text at a path to the connection of the place, if it has a seat there.
 ///
 /// # Errors
-/// `LostText`, where there is no room for it.
+/// `LostText` if there is no room for it.
 pub(crate) fn give_text<C: Connections, P: Policy>(
     path: &mut Option<Path<C, P>>,
     to: Place,

@@ -35,7 +35,7 @@ pub(crate) fn listen_at<R: Files + Net>(
     rt.bind_unix(socket.as_fd(), &address)?;
     let listener = begin(rt, path, socket, teller);
     if listener.is_err() {
-        // Where it can't be removed, it is one at which no process listens.
+        // If it can't be removed, it is a file at which no process listens.
         let _ = fs::remove_file(rt, path);
     }
     listener
@@ -89,7 +89,7 @@ fn begin<R: Files>(
     Ok(listener)
 }
 
-/// Ok where the call that has just answered this status succeeded.
+/// Ok if the call that has just answered this status succeeded.
 ///
 /// # Errors
 /// The system's error at that call.

@@ -17,11 +17,11 @@ use std::io::{ErrorKind, Read, Write};
 use std::net::Net;
 use trdp_lines::{Accepted, Came, Connections, Went};
 
-/// The most connections that are open at once: four operators, one that waits for a seat, and one
-/// that is told that there are others.
+/// Room for the open connections of one path. At most five are open at once: four operators, and
+/// one that is sent `busy`.
 const OPEN_MAX: usize = 6;
 
-/// How often a call is made that signals interrupt.
+/// How often a call is made at most if signals interrupt it.
 const TRIES: u32 = 8;
 
 /// The connections of the system at a path. They report nothing.
@@ -35,7 +35,7 @@ pub struct SystemConnections<'a, R: Files + Net> {
     path: String,
     /// The socket at which they come in.
     listener: UnixListener,
-    /// Those that are open, at most six, for which there is room.
+    /// Those that are open. There is room for six.
     seats: Vec<Seated>,
     /// Where the system reports that one came, or can go on.
     teller: Teller,
@@ -55,13 +55,13 @@ struct Seated {
 }
 
 impl<'a, R: Files + Net> SystemConnections<'a, R> {
-    /// Listens at the file of that number in a folder. The teller is told when a connection, bytes,
-    /// room for more or an end comes.
+    /// Listens at the file of that number in a folder. The system reports to the teller's registry
+    /// when a connection, bytes, room for more or an end comes.
     ///
     /// # Errors
-    /// `Refused` where a process listens there, where something else than the file of a socket is
-    /// there, which is left as it is, or where the path has more than 107 bytes. `Refused` too
-    /// where the system refuses it otherwise; `OutOfMemory` where an allocation for it fails.
+    /// `Refused` if a process listens there, if something other than a socket's file is there,
+    /// which is left as it is, if the path has more than 107 bytes, or if the system refuses it
+    /// for another reason. `OutOfMemory` if an allocation fails, or the system is out of memory.
     pub fn listen(
         rt: &'a R,
         alloc: Global,
@@ -90,7 +90,7 @@ impl<'a, R: Files + Net> SystemConnections<'a, R> {
     /// Accepts the next connection, and keeps it open.
     ///
     /// # Errors
-    /// The system's error; `StorageFull` where too many are open.
+    /// The system's error; `StorageFull` if too many are open.
     fn open_next(&mut self, number: u64) -> io::Result<()>
         ensures number { self.new.file_number ≡ self.old.file_number }
     {
@@ -175,9 +175,9 @@ impl<'a, R: Files + Net> Connections for SystemConnections<'a, R> {
     }
 }
 
-/// Reads once from a stream. A read that a signal interrupts is made again, since the system
-/// doesn't report a second time that bytes are there. Where each of them is interrupted, the bytes
-/// wait until the next take.
+/// Reads once from a stream. A read that a signal interrupts is made again, up to eight reads in
+/// all, since the system doesn't report a second time that bytes are there. If all eight are
+/// interrupted, the bytes wait until the next news of the path.
 ///
 /// # Errors
 /// The system's error.
@@ -193,7 +193,8 @@ fn read_from(mut stream: &UnixStream, room: &mut [u8]) -> io::Result<usize>
     Err(io::Error::from(ErrorKind::Interrupted))
 }
 
-/// Writes once to a stream. A write that a signal interrupts is made again.
+/// Writes once to a stream. A write that a signal interrupts is made again, up to eight writes in
+/// all.
 ///
 /// # Errors
 /// The system's error.

@@ -21,7 +21,7 @@ pub struct SystemFolder<'a, R: Files + Net> {
     alloc: Global,
     /// The path of the folder.
     path: &'a str,
-    /// Where the system reports that a connection, bytes, room or an end came; None where it
+    /// Where the system reports that a connection, bytes, room or an end came; None if it
     /// doesn't.
     registry: Option<Registry>,
 }

@@ -7,7 +7,7 @@ use std::io;
 /// Where the system is asked to report a path, and by which number it does.
 #[derive(Default, Drop)]
 pub struct Teller {
-    /// Where it is asked; None where it reports nothing.
+    /// Where it is asked; None if it reports nothing.
     pub registry: Option<Registry>,
     /// The number of the socket that the path's port would have.
     pub socket: usize,
@@ -26,14 +26,14 @@ impl Teller {
     }
 
     /// Asks the system to report a source that is watched, from now on, when it has something to
-    /// read and, where `room` is true, when it has room for what is written.
+    /// read and, if `room` is true, when it has room for what is written.
     pub(crate) fn watch_room<S: Source>(&self, source: &mut S, room: bool) {
         let mut interest = Interest::READABLE;
         if room {
             interest = interest | Interest::WRITABLE;
         }
         if let Some(registry) = &self.registry {
-            // Where the system refuses it, what waits goes out at the next news of the path.
+            // If the system refuses it, what waits goes out at the next news of the path.
             let _ = registry.reregister(source, Token(self.socket), interest);
         }
     }
