@@ -4,13 +4,12 @@ ghost use Rattle.std.specs.Prelude.{◌≡◌, ◌<◌, ◌≤◌, length, IfOk,
 ghost use Rattle.std.specs.Prelude.{Bool, true, false, ◌||◌};
 ghost use Rattle.std.specs.Option.{option_map};
 ghost use Rattle.trdp_controls.specs.ControlWires.{GivesAtControl, GivesAtOperator};
-ghost use Rattle.trdp_controls.specs.ControlWires.{GivesOverNetwork, TakesControl};
-ghost use Rattle.trdp_controls.specs.ControlWires.{TakesOperator, TakesOverNetwork};
+ghost use Rattle.trdp_controls.specs.ControlWires.{TakesControl, TakesOperator};
 ghost use Rattle.trdp_controls.specs.ControlWires.{GivesAtPort, IsUnasked, RestsOverNetwork};
 ghost use Rattle.trdp_controls.specs.ControlWires.{TakesAtPort};
 
 use crate::path_calls::{
-    accept_fault, give_text, give_text_at, is_end_at, missing_files, nothing, take_line,
+    accept_fault, give_text, give_text_at, is_end_at, missing_files, take_line,
 };
 use trdp_base::Place;
 use trdp_lines::{Connections, ControlPath, LostText, OperatorPath};
@@ -50,44 +49,10 @@ impl<N: WatchedWire, C: Connections> ControlWire<N, C> {
     ghost use Rattle.std.specs.Option.{option_map};
     ghost use Rattle.trdp_wire.specs.declared.port.Port.TheVariants.{Control, Operator};
     ghost use Rattle.trdp_controls.specs.ControlWires.{GivesAtControl, GivesAtOperator};
-    ghost use Rattle.trdp_controls.specs.ControlWires.{GivesOverNetwork, TakesControl};
-    ghost use Rattle.trdp_controls.specs.ControlWires.{IsUnasked, NotesIf, TakesOperator};
+    ghost use Rattle.trdp_controls.specs.ControlWires.{IsUnasked, NotesIf, TakesControl};
+    ghost use Rattle.trdp_controls.specs.ControlWires.{TakesOperator};
     ghost use Rattle.trdp_controls.specs.ControlWires.{control_at, has_ended_at};
     ghost use Rattle.trdp_wire.specs.Told.{arrived_in, stands_for_end};
-    ghost use Rattle.trdp_controls.specs.ControlWires.{TakesOverNetwork};
-
-    /// Takes the next datagram at a port of the network, as [`Wire::find`] does.
-    ///
-    /// # Errors
-    /// `WireFault` if the network fails, and the count of failures rose.
-    fn find_telegram(
-        &mut self,
-        port: Port,
-        anew: bool,
-        room: &mut [u8],
-    ) -> (Result<Option<(Place, usize)>, WireFault>, bool)
-        ensures within { IfOk result.0 (λ found. IfSome found (λ f. f.1 ≤ length room.new)) }
-        ensures takes { TakesOverNetwork (N.takings self.old.network) (N.takings self.new.network)
-            port result.1 result.0 room.new self.old.failures }
-        ensures fault { OnErr result.0 (self.old.failures < self.new.failures) }
-        ensures operator { self.new.operator ≡ self.old.operator }
-        ensures controls { self.new.controls ≡ self.old.controls }
-        ensures heard { self.new.heard ≡ self.old.heard }
-        ensures kept { OnOk result.0 (self.new.unread ≡ self.old.unread) }
-        ensures failed { OnErr result.0 (option_map (λ u. u.port) self.new.unread ≡ Some port) }
-    {
-        let (found, ended) = self.network.find(port, anew, room);
-        if let Ok(found) = found {
-            return (Ok(found), ended);
-        }
-        let found = nothing(&mut self.failures);
-        if found.is_err() {
-            let unread = self.network.unread();
-            let fault = unread.map_or(SocketFault { code: None }, |unread| unread.fault);
-            self.unread = Some(Unread { port, fault });
-        }
-        (found, ended)
-    }
 
     /// Takes the next line of the application of a slot, or its end, and returns which it is.
     ///
@@ -192,27 +157,6 @@ impl<N: WatchedWire, C: Connections> ControlWire<N, C> {
         self.heard = self.heard || heard;
         if anew || !may_be {
             self.network.set_news(port, may_be);
-        }
-    }
-
-    /// Gives a datagram to the network.
-    ///
-    /// # Errors
-    /// `WireFault` if the network fails, and the count of failures rose.
-    fn give_telegram(&mut self, port: Port, to: Place, bytes: &[u8]) -> Result<(), WireFault>
-        ensures gives { GivesOverNetwork (N.gives self.old.network) (N.gives self.new.network)
-            port to bytes.now result self.old.failures }
-        ensures fault { OnErr result (self.old.failures < self.new.failures) }
-        ensures operator { self.new.operator ≡ self.old.operator }
-        ensures controls { self.new.controls ≡ self.old.controls }
-        ensures heard { self.new.heard ≡ self.old.heard }
-    {
-        match self.network.give(port, to, bytes) {
-            Ok(()) => Ok(()),
-            Err(_) => {
-                self.refusal = self.network.refusal();
-                fail(&mut self.failures)
-            }
         }
     }
 

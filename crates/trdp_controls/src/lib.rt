@@ -55,6 +55,7 @@ mod place;
 mod socket_file;
 mod system_connections;
 mod system_folder;
+mod telegrams;
 mod teller;
 
 pub use control_wire::ControlWire;
