@@ -1,12 +1,13 @@
 //! The wire of a node whose lines come over control sockets.
 
 ghost use Rattle.std.specs.Prelude.{◌≡◌, ◌<◌, ◌≤◌, length, IfOk, IfSome, OnOk, OnErr, None, Some};
-ghost use Rattle.std.specs.Prelude.{Bool, true, false, ◌||◌};
+ghost use Rattle.std.specs.Prelude.{Bool, true, false, ◌||◌, is_err};
 ghost use Rattle.std.specs.Option.{option_map};
 ghost use Rattle.trdp_controls.specs.ControlWires.{GivesAtControl, GivesAtOperator};
 ghost use Rattle.trdp_controls.specs.ControlWires.{TakesControl, TakesOperator};
 ghost use Rattle.trdp_controls.specs.ControlWires.{GivesAtPort, IsUnasked, RestsOverNetwork};
 ghost use Rattle.trdp_controls.specs.ControlWires.{TakesAtPort};
+ghost use Rattle.trdp_wire.specs.Failures.{one_more_if};
 
 use crate::path_calls::{
     accept_fault, give_text, give_text_at, is_end_at, missing_files, take_line,
@@ -52,6 +53,7 @@ impl<N: WatchedWire, C: Connections> ControlWire<N, C> {
     ghost use Rattle.trdp_controls.specs.ControlWires.{IsUnasked, NotesIf, TakesControl};
     ghost use Rattle.trdp_controls.specs.ControlWires.{TakesOperator};
     ghost use Rattle.trdp_controls.specs.ControlWires.{control_at, has_ended_at};
+    ghost use Rattle.trdp_wire.specs.Failures.{one_more_if};
     ghost use Rattle.trdp_wire.specs.Told.{arrived_in, stands_for_end};
 
     /// Takes the next line of the application of a slot, or its end, and returns which it is.
@@ -71,9 +73,11 @@ impl<N: WatchedWire, C: Connections> ControlWire<N, C> {
             (has_ended_at (control_at self.new.controls.items slot))
             (arrived_in result.0 room.new) }
         ensures fault { OnErr result.0 (self.old.failures < self.new.failures) }
+        ensures count { self.new.failures ≡ one_more_if (is_err result.0) self.old.failures }
         ensures kept { OnOk result.0 (self.new.unread ≡ self.old.unread) }
         ensures failed { OnErr result.0
             (option_map (λ u. u.port) self.new.unread ≡ Some (Control slot)) }
+        ensures refusal { self.new.refusal ≡ self.old.refusal }
     {
         let found = self.take_control(slot, anew, room);
         let ended = is_end_at(&self.controls, usize::from(slot), found);
@@ -85,6 +89,7 @@ impl<N: WatchedWire, C: Connections> ControlWire<N, C> {
     /// # Errors
     /// `WireFault` if nothing is there, the system refuses the next connection, and the count of
     /// failures rose.
+    #[tactic(auto, unfolding(trdp_wire::specs::Failures::one_more_if))]
     fn take_control(
         &mut self,
         slot: u16,
@@ -95,9 +100,11 @@ impl<N: WatchedWire, C: Connections> ControlWire<N, C> {
         ensures takes { TakesControl N.takings N.gives N.news C.calls anew slot self.old self.new
             (length room.old) result room.new }
         ensures fault { OnErr result (self.old.failures < self.new.failures) }
+        ensures count { self.new.failures ≡ one_more_if (is_err result) self.old.failures }
         ensures kept { OnOk result (self.new.unread ≡ self.old.unread) }
         ensures failed { OnErr result
             (option_map (λ u. u.port) self.new.unread ≡ Some (Control slot)) }
+        ensures refusal { self.new.refusal ≡ self.old.refusal }
     {
         let index = usize::from(slot);
         if index >= self.controls.len() {
@@ -127,8 +134,10 @@ impl<N: WatchedWire, C: Connections> ControlWire<N, C> {
         ensures takes { TakesOperator N.takings N.gives N.news C.calls anew self.old self.new
             (length room.old) result room.new }
         ensures fault { OnErr result (self.old.failures < self.new.failures) }
+        ensures count { self.new.failures ≡ one_more_if (is_err result) self.old.failures }
         ensures kept { OnOk result (self.new.unread ≡ self.old.unread) }
         ensures failed { OnErr result (option_map (λ u. u.port) self.new.unread ≡ Some Operator) }
+        ensures refusal { self.new.refusal ≡ self.old.refusal }
     {
         let port = Port::Operator;
         let (found, heard) = take_line(&mut self.operator, room, &mut self.failures);
@@ -153,6 +162,7 @@ impl<N: WatchedWire, C: Connections> ControlWire<N, C> {
         ensures unread { self.new.unread ≡ self.old.unread }
         ensures operator { self.new.operator ≡ self.old.operator }
         ensures controls { self.new.controls ≡ self.old.controls }
+        ensures refusal { self.new.refusal ≡ self.old.refusal }
     {
         self.heard = self.heard || heard;
         if anew || !may_be {
@@ -165,6 +175,7 @@ impl<N: WatchedWire, C: Connections> ControlWire<N, C> {
     ///
     /// # Errors
     /// `WireFault` if the text was lost, and the count of failures rose.
+    #[tactic(auto, unfolding(trdp_wire::specs::Failures::one_more_if))]
     fn count_lost(
         &mut self,
         said: Result<(), LostText>,
@@ -172,12 +183,14 @@ impl<N: WatchedWire, C: Connections> ControlWire<N, C> {
         to: Place,
     ) -> Result<(), WireFault>
         ensures fault { OnErr result (self.old.failures < self.new.failures) }
+        ensures count { self.new.failures ≡ one_more_if (is_err result) self.old.failures }
         ensures counted { is_err result
             ≡ is_err said && nat_lt self.old.failures (2 ^ 64 - 1) }
         ensures network { self.new.network ≡ self.old.network }
         ensures operator { self.new.operator ≡ self.old.operator }
         ensures controls { self.new.controls ≡ self.old.controls }
         ensures heard { self.new.heard ≡ self.old.heard }
+        ensures unread { self.new.unread ≡ self.old.unread }
     {
         if said.is_ok() {
             return Ok(());
@@ -200,16 +213,19 @@ impl<N: WatchedWire, C: Connections> Wire for ControlWire<N, C> {
     fn take(&mut self, port: Port, room: &mut [u8]) -> Result<Option<(Place, usize)>, WireFault>
         ensures within { IfOk result (λ found. IfSome found (λ f. f.1 ≤ length room.new)) }
         ensures fault { OnErr result (self.old.failures < self.new.failures) }
+        ensures count { self.new.failures ≡ one_more_if (is_err result) self.old.failures }
         ensures takes { (ended : Bool) × TakesAtPort N.takings N.gives N.news C.calls
             (N.news self.old.network port) false self.old self.new port (length room.old) result
             ended room.new }
         ensures kept { OnOk result (self.new.unread ≡ self.old.unread) }
         ensures failed { OnErr result (option_map (λ u. u.port) self.new.unread ≡ Some port) }
+        ensures refusal { self.new.refusal ≡ self.old.refusal }
     {
         let (found, _) = self.find(port, false, room);
         found
     }
 
+    #[tactic(auto, unfolding(trdp_wire::specs::Failures::one_more_if))]
     fn find(
         &mut self,
         port: Port,
@@ -218,11 +234,13 @@ impl<N: WatchedWire, C: Connections> Wire for ControlWire<N, C> {
     ) -> (Result<Option<(Place, usize)>, WireFault>, bool)
         ensures within { IfOk result.0 (λ found. IfSome found (λ f. f.1 ≤ length room.new)) }
         ensures fault { OnErr result.0 (self.old.failures < self.new.failures) }
+        ensures count { self.new.failures ≡ one_more_if (is_err result.0) self.old.failures }
         ensures takes { TakesAtPort N.takings N.gives N.news C.calls
             (anew || N.news self.old.network port) anew self.old self.new port
             (length room.old) result.0 result.1 room.new }
         ensures kept { OnOk result.0 (self.new.unread ≡ self.old.unread) }
         ensures failed { OnErr result.0 (option_map (λ u. u.port) self.new.unread ≡ Some port) }
+        ensures refusal { self.new.refusal ≡ self.old.refusal }
     {
         let looks = anew || self.network.has_news(port);
         match port {
@@ -237,8 +255,10 @@ impl<N: WatchedWire, C: Connections> Wire for ControlWire<N, C> {
 
     fn give(&mut self, port: Port, to: Place, bytes: &[u8]) -> Result<(), WireFault>
         ensures fault { OnErr result (self.old.failures < self.new.failures) }
+        ensures count { self.new.failures ≡ one_more_if (is_err result) self.old.failures }
         ensures gives { GivesAtPort N.gives C.calls self.old self.new port to bytes.now result }
         ensures heard { self.new.heard ≡ self.old.heard }
+        ensures unread { self.new.unread ≡ self.old.unread }
     {
         match port {
             Port::Pd | Port::Md | Port::PdGroup(_) | Port::MdGroup(_) => {
@@ -288,6 +308,8 @@ impl<N: WatchedWire, C: Connections> WatchedWire for ControlWire<N, C> {
     fn rest(&mut self, most: u64)
         ensures rests { RestsOverNetwork N.rested self.old self.new most }
         ensures fault { self.new.failures ≡ self.old.failures }
+        ensures refusal { self.new.refusal ≡ self.old.refusal }
+        ensures unread { self.new.unread ≡ self.old.unread }
     {
         // Where something was heard, more may be there: so the network has no time to wait.
         let most = if self.heard { 0 } else { most };
@@ -310,6 +332,8 @@ impl<N: WatchedWire, C: Connections> WatchedWire for ControlWire<N, C> {
         ensures operator { self.new.operator ≡ self.old.operator }
         ensures controls { self.new.controls ≡ self.old.controls }
         ensures heard { self.new.heard ≡ self.old.heard }
+        ensures refusal { self.new.refusal ≡ self.old.refusal }
+        ensures unread { self.new.unread ≡ self.old.unread }
     {
         self.network.set_news(port, may_be);
     }

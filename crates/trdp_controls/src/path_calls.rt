@@ -5,6 +5,7 @@ ghost use Rattle.std.specs.Prelude.{◌&&◌, is_err, nat_lt, List, ℕ};
 ghost use Rattle.std.specs.Option.{option_map};
 ghost use Rattle.trdp_controls.specs.ControlWires.{SaysAtControl, SaysAtPath, TakesAtPath};
 ghost use Rattle.trdp_controls.specs.ControlWires.{control_at, found_in, has_ended_at, found_place};
+ghost use Rattle.trdp_wire.specs.Failures.{one_more_if};
 ghost use Rattle.trdp_wire.specs.Told.{arrived_in, stands_for_end};
 
 use crate::place::{number_of, place_of};
@@ -16,10 +17,12 @@ use trdp_wire::{Missing, SocketFault, WireFault, fail};
 ///
 /// # Errors
 /// `WireFault` if the count of failures rose.
+#[tactic(auto, unfolding(trdp_wire::specs::Failures::one_more_if))]
 pub(crate) fn nothing(failures: &mut u64) -> Result<Option<(Place, usize)>, WireFault>
     ensures found { IfOk result (λ found. found ≡ None) }
     ensures fails { is_err result ≡ nat_lt failures.old (2 ^ 64 - 1) }
     ensures fault { OnErr result (failures.old < failures.new) }
+    ensures count { failures.new ≡ one_more_if (is_err result) failures.old }
 {
     fail(failures).map(|()| None)
 }
@@ -29,6 +32,7 @@ pub(crate) fn nothing(failures: &mut u64) -> Result<Option<(Place, usize)>, Wire
 /// # Errors
 /// `WireFault` if nothing is there, the system refuses the next connection, and the count of
 /// failures rose.
+#[tactic(auto, unfolding(trdp_wire::specs::Failures::one_more_if))]
 fn answer_of(
     taken: Result<Option<(u64, usize)>, AcceptFault>,
     failures: &mut u64,
@@ -36,6 +40,7 @@ fn answer_of(
     ensures found { found_in result ≡ option_map found_place (found_in taken) }
     ensures fails { is_err result ≡ is_err taken && nat_lt failures.old (2 ^ 64 - 1) }
     ensures fault { OnErr result (failures.old < failures.new) }
+    ensures count { failures.new ≡ one_more_if (is_err result) failures.old }
 {
     match taken {
         Ok(Some((number, len))) => Ok(Some((place_of(number), len))),
@@ -46,6 +51,7 @@ fn answer_of(
 
 /// Takes the next line at a path, or the end of its application; if there is no path, nothing ever
 /// comes. Also returns whether something was heard there.
+#[tactic(auto, unfolding(trdp_wire::specs::Failures::one_more_if))]
 pub(crate) fn take_line<C: Connections, P: Policy>(
     path: &mut Option<Path<C, P>>,
     room: &mut [u8],
@@ -55,6 +61,7 @@ pub(crate) fn take_line<C: Connections, P: Policy>(
     ensures takes { TakesAtPath P.rule C.calls path.old path.new (length room.old) result.0
         result.1 room.new failures.old }
     ensures fault { OnErr result.0 (failures.old < failures.new) }
+    ensures count { failures.new ≡ one_more_if (is_err result.0) failures.old }
 {
     let Some(path) = path else {
         return (Ok(None), false);

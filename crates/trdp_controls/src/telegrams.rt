@@ -8,14 +8,17 @@ use trdp_lines::Connections;
 use trdp_wire::{Port, SocketFault, Unread, Wire, WireFault, fail};
 
 impl<N: Wire, C: Connections> ControlWire<N, C> {
-    ghost use Rattle.std.specs.Prelude.{◌≡◌, ◌<◌, ◌≤◌, length, IfOk, IfSome, OnOk, OnErr, Some};
+    ghost use Rattle.std.specs.Prelude.{◌≡◌, ◌<◌, ◌≤◌, length, is_err, IfOk, IfSome};
+    ghost use Rattle.std.specs.Prelude.{OnOk, OnErr, Some};
     ghost use Rattle.std.specs.Option.{option_map};
     ghost use Rattle.trdp_controls.specs.ControlWires.{GivesOverNetwork, TakesOverNetwork};
+    ghost use Rattle.trdp_wire.specs.Failures.{one_more_if};
 
     /// Takes the next datagram at a port of the network, as [`Wire::find`] does.
     ///
     /// # Errors
     /// `WireFault` if the network fails, and the count of failures rose.
+    #[tactic(auto, unfolding(trdp_wire::specs::Failures::one_more_if))]
     pub(crate) fn find_telegram(
         &mut self,
         port: Port,
@@ -26,11 +29,13 @@ impl<N: Wire, C: Connections> ControlWire<N, C> {
         ensures takes { TakesOverNetwork (N.takings self.old.network) (N.takings self.new.network)
             port result.1 result.0 room.new self.old.failures }
         ensures fault { OnErr result.0 (self.old.failures < self.new.failures) }
+        ensures count { self.new.failures ≡ one_more_if (is_err result.0) self.old.failures }
         ensures operator { self.new.operator ≡ self.old.operator }
         ensures controls { self.new.controls ≡ self.old.controls }
         ensures heard { self.new.heard ≡ self.old.heard }
         ensures kept { OnOk result.0 (self.new.unread ≡ self.old.unread) }
         ensures failed { OnErr result.0 (option_map (λ u. u.port) self.new.unread ≡ Some port) }
+        ensures refusal { self.new.refusal ≡ self.old.refusal }
     {
         let (found, ended) = self.network.find(port, anew, room);
         if let Ok(found) = found {
@@ -49,6 +54,7 @@ impl<N: Wire, C: Connections> ControlWire<N, C> {
     ///
     /// # Errors
     /// `WireFault` if the network fails, and the count of failures rose.
+    #[tactic(auto, unfolding(trdp_wire::specs::Failures::one_more_if))]
     pub(crate) fn give_telegram(
         &mut self,
         port: Port,
@@ -58,9 +64,11 @@ impl<N: Wire, C: Connections> ControlWire<N, C> {
         ensures gives { GivesOverNetwork (N.gives self.old.network) (N.gives self.new.network)
             port to bytes.now result self.old.failures }
         ensures fault { OnErr result (self.old.failures < self.new.failures) }
+        ensures count { self.new.failures ≡ one_more_if (is_err result) self.old.failures }
         ensures operator { self.new.operator ≡ self.old.operator }
         ensures controls { self.new.controls ≡ self.old.controls }
         ensures heard { self.new.heard ≡ self.old.heard }
+        ensures unread { self.new.unread ≡ self.old.unread }
     {
         match self.network.give(port, to, bytes) {
             Ok(()) => Ok(()),
