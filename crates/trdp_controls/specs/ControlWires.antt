@@ -199,13 +199,14 @@ abbrev pub IfLooks : {N C : Type 0} → Bool → (old new : ControlWire N C)
 IfLooks true old new result ended Takes = Takes
 IfLooks false old new result ended Takes = (result ≡ Ok None) × (ended ≡ false) × (new ≡ old)
 
--- a take at one of the network's ports, which changes no path
+-- a take at one of the network's ports, which gives nothing, and changes no path
 abbrev pub TakesTelegram : {N C : Type 0} → (takings_in : N → Option (List Taking))
-    → (old new : ControlWire N C) → Port → Result (Option (Place × ℕ)) WireFault → (ended : Bool)
-    → (room_then : List ℕ) → Type 0
-TakesTelegram takings_in old new port result ended room_then =
+    → (gives_in : N → Option (List Give)) → (old new : ControlWire N C) → Port
+    → Result (Option (Place × ℕ)) WireFault → (ended : Bool) → (room_then : List ℕ) → Type 0
+TakesTelegram takings_in gives_in old new port result ended room_then =
     TakesOverNetwork (takings_in old.network) (takings_in new.network) port ended result
     room_then old.failures
+    × TellsMore (gives_in old.network) (gives_in new.network) []
     × (new.operator ≡ old.operator) × (new.controls.items ≡ old.controls.items)
     × (new.heard ≡ old.heard)
 
@@ -220,15 +221,15 @@ abbrev pub TakesAtPort : {N C : Type 0} → (takings_in : N → Option (List Tak
     → (room : ℕ) → Result (Option (Place × ℕ)) WireFault → (ended : Bool) → (room_then : List ℕ)
     → Type 0
 TakesAtPort takings_in gives_in news_in calls_of looks anew old new Pd room result ended room_then =
-    TakesTelegram takings_in old new Pd result ended room_then
+    TakesTelegram takings_in gives_in old new Pd result ended room_then
 TakesAtPort takings_in gives_in news_in calls_of looks anew old new Md room result ended room_then =
-    TakesTelegram takings_in old new Md result ended room_then
+    TakesTelegram takings_in gives_in old new Md result ended room_then
 TakesAtPort takings_in gives_in news_in calls_of looks anew old new (PdGroup group) room result ended
     room_then =
-    TakesTelegram takings_in old new (PdGroup group) result ended room_then
+    TakesTelegram takings_in gives_in old new (PdGroup group) result ended room_then
 TakesAtPort takings_in gives_in news_in calls_of looks anew old new (MdGroup group) room result ended
     room_then =
-    TakesTelegram takings_in old new (MdGroup group) result ended room_then
+    TakesTelegram takings_in gives_in old new (MdGroup group) result ended room_then
 TakesAtPort takings_in gives_in news_in calls_of looks anew old new Operator room result ended
     room_then =
     IfLooks looks old new result ended
@@ -250,28 +251,32 @@ pub record RestsOverNetwork {N C : Type 0} (rested_in : N → N → ℕ → Type
   pub operator : new.operator ≡ old.operator
   pub controls : new.controls.items ≡ old.controls.items
 
+-- a give at one of the network's ports, which takes nothing, and changes no path
+abbrev pub GivesTelegram : {N C : Type 0} → (takings_in : N → Option (List Taking))
+    → (gives_in : N → Option (List Give)) → (old new : ControlWire N C) → Port → (to : Place)
+    → (bytes : List ℕ) → Result (Unit {0}) WireFault → Type 0
+GivesTelegram takings_in gives_in old new port to bytes result =
+    GivesOverNetwork (gives_in old.network) (gives_in new.network) port to bytes result old.failures
+    × TellsMore (takings_in old.network) (takings_in new.network) []
+    × (new.operator ≡ old.operator) × (new.controls.items ≡ old.controls.items)
+
 -- a give at a port: to the network, or at the operator's path or that of a slot, and nowhere else
-abbrev pub GivesAtPort : {N C : Type 0} → (gives_in : N → Option (List Give))
-    → (calls_of : C → Option (List ConnectionCall)) → (old new : ControlWire N C) → Port
-    → (to : Place) → (bytes : List ℕ) → Result (Unit {0}) WireFault → Type 0
-GivesAtPort gives_in calls_of old new Pd to bytes result =
-    GivesOverNetwork (gives_in old.network) (gives_in new.network) Pd to bytes result old.failures
-    × (new.operator ≡ old.operator) × (new.controls.items ≡ old.controls.items)
-GivesAtPort gives_in calls_of old new Md to bytes result =
-    GivesOverNetwork (gives_in old.network) (gives_in new.network) Md to bytes result old.failures
-    × (new.operator ≡ old.operator) × (new.controls.items ≡ old.controls.items)
-GivesAtPort gives_in calls_of old new (PdGroup group) to bytes result =
-    GivesOverNetwork (gives_in old.network) (gives_in new.network) (PdGroup group) to bytes result
-    old.failures
-    × (new.operator ≡ old.operator) × (new.controls.items ≡ old.controls.items)
-GivesAtPort gives_in calls_of old new (MdGroup group) to bytes result =
-    GivesOverNetwork (gives_in old.network) (gives_in new.network) (MdGroup group) to bytes result
-    old.failures
-    × (new.operator ≡ old.operator) × (new.controls.items ≡ old.controls.items)
-GivesAtPort gives_in calls_of old new Operator to bytes result =
+abbrev pub GivesAtPort : {N C : Type 0} → (takings_in : N → Option (List Taking))
+    → (gives_in : N → Option (List Give)) → (calls_of : C → Option (List ConnectionCall))
+    → (old new : ControlWire N C) → Port → (to : Place) → (bytes : List ℕ)
+    → Result (Unit {0}) WireFault → Type 0
+GivesAtPort takings_in gives_in calls_of old new Pd to bytes result =
+    GivesTelegram takings_in gives_in old new Pd to bytes result
+GivesAtPort takings_in gives_in calls_of old new Md to bytes result =
+    GivesTelegram takings_in gives_in old new Md to bytes result
+GivesAtPort takings_in gives_in calls_of old new (PdGroup group) to bytes result =
+    GivesTelegram takings_in gives_in old new (PdGroup group) to bytes result
+GivesAtPort takings_in gives_in calls_of old new (MdGroup group) to bytes result =
+    GivesTelegram takings_in gives_in old new (MdGroup group) to bytes result
+GivesAtPort takings_in gives_in calls_of old new Operator to bytes result =
     GivesAtOperator calls_of old.operator new.operator to bytes result old.failures
     × (new.network ≡ old.network) × (new.controls.items ≡ old.controls.items)
-GivesAtPort gives_in calls_of old new (Control slot) to bytes result =
+GivesAtPort takings_in gives_in calls_of old new (Control slot) to bytes result =
     GivesAtControl calls_of slot old.controls.items new.controls.items to bytes result
     old.failures
     × (new.network ≡ old.network) × (new.operator ≡ old.operator)

@@ -256,7 +256,8 @@ impl<N: WatchedWire, C: Connections> Wire for ControlWire<N, C> {
     fn give(&mut self, port: Port, to: Place, bytes: &[u8]) -> Result<(), WireFault>
         ensures fault { OnErr result (self.old.failures < self.new.failures) }
         ensures count { self.new.failures ≡ one_more_if (is_err result) self.old.failures }
-        ensures gives { GivesAtPort N.gives C.calls self.old self.new port to bytes.now result }
+        ensures gives { GivesAtPort N.takings N.gives C.calls self.old self.new port to bytes.now
+            result }
         ensures heard { self.new.heard ≡ self.old.heard }
         ensures unread { self.new.unread ≡ self.old.unread }
     {

@@ -9,8 +9,9 @@ use trdp_wire::{Port, SocketFault, Unread, Wire, WireFault, fail};
 
 impl<N: Wire, C: Connections> ControlWire<N, C> {
     ghost use Rattle.std.specs.Prelude.{◌≡◌, ◌<◌, ◌≤◌, length, is_err, IfOk, IfSome};
-    ghost use Rattle.std.specs.Prelude.{OnOk, OnErr, Some};
+    ghost use Rattle.std.specs.Prelude.{OnOk, OnErr, Some, []};
     ghost use Rattle.std.specs.Option.{option_map};
+    ghost use Rattle.trdp_base.specs.Reported.{TellsMore};
     ghost use Rattle.trdp_controls.specs.ControlWires.{GivesOverNetwork, TakesOverNetwork};
     ghost use Rattle.trdp_wire.specs.Failures.{one_more_if};
 
@@ -28,6 +29,7 @@ impl<N: Wire, C: Connections> ControlWire<N, C> {
         ensures within { IfOk result.0 (λ found. IfSome found (λ f. f.1 ≤ length room.new)) }
         ensures takes { TakesOverNetwork (N.takings self.old.network) (N.takings self.new.network)
             port result.1 result.0 room.new self.old.failures }
+        ensures gives_nothing { TellsMore (N.gives self.old.network) (N.gives self.new.network) [] }
         ensures fault { OnErr result.0 (self.old.failures < self.new.failures) }
         ensures count { self.new.failures ≡ one_more_if (is_err result.0) self.old.failures }
         ensures operator { self.new.operator ≡ self.old.operator }
@@ -63,6 +65,8 @@ impl<N: Wire, C: Connections> ControlWire<N, C> {
     ) -> Result<(), WireFault>
         ensures gives { GivesOverNetwork (N.gives self.old.network) (N.gives self.new.network)
             port to bytes.now result self.old.failures }
+        ensures takes_nothing { TellsMore (N.takings self.old.network)
+            (N.takings self.new.network) [] }
         ensures fault { OnErr result (self.old.failures < self.new.failures) }
         ensures count { self.new.failures ≡ one_more_if (is_err result) self.old.failures }
         ensures operator { self.new.operator ≡ self.old.operator }
