@@ -58,10 +58,7 @@ impl<'a, R: Files + Net> Folder<SystemConnections<'a, R>> for SystemFolder<'a, R
         number: u16,
         socket: usize,
     ) -> Result<SystemConnections<'a, R>, ListenFault> {
-        let registry = match &self.registry {
-            Some(registry) => Some(registry.try_clone()?),
-            None => None,
-        };
+        let registry = self.registry.as_ref().map(|r| r.try_clone()).transpose()?;
         let teller = Teller { registry, socket };
         SystemConnections::listen(self.rt, self.alloc, self.path, number, teller)
     }
