@@ -25,10 +25,10 @@ use trdp_udp::{RestingWire, RunClock, SystemSockets};
 use trdp_wire::WatchedWire;
 
 /// Binds the ports of a configuration, and serves its node until the program is stopped: a line of
-/// its totals comes each so many seconds.
+/// its totals comes every `seconds` seconds, or never if `seconds` is 0.
 ///
 /// # Errors
-/// `Bind` where the system refuses a port or a path, and `OutOfMemory`.
+/// `Bind` if the system refuses a port or a path, and `OutOfMemory`.
 pub(crate) fn attend<H: Files + Net + Clock + AllocGlobal, W: Stream, E: Write>(
     rt: &H,
     config: NodeConfig,
@@ -64,8 +64,7 @@ pub(crate) fn attend<H: Files + Net + Clock + AllocGlobal, W: Stream, E: Write>(
     }
 }
 
-/// Attends to the node of a daemon, if it was opened, until as many lines of totals were offered as
-/// can be counted.
+/// Attends to a daemon's node, if it was opened, until 2^64 - 1 lines of totals were offered.
 ///
 /// # Errors
 /// `OutOfMemory`.
@@ -97,7 +96,7 @@ fn attend_all_lines<L: WatchedWire + Drop, K: trdp_wire::Clock + Drop, W: Stream
 /// line before, or after 0. A line that the writer doesn't take is left out.
 ///
 /// # Errors
-/// `OutOfMemory`, where an allocation for a line fails.
+/// `OutOfMemory` if an allocation for a line fails.
 pub fn attend_lines<L: WatchedWire, C: trdp_wire::Clock, W: Stream, E: Write>(
     alloc: Global,
     daemon: &mut Daemon<L, C>,
@@ -151,8 +150,8 @@ fn attend_until<L: WatchedWire, C: trdp_wire::Clock, E: Write>(
     reading
 }
 
-/// The microseconds from one line of totals to the next; longer than any daemon runs where the
-/// number of seconds is 0.
+/// The microseconds from one line of totals to the next; longer than any daemon runs if the number
+/// of seconds is 0.
 #[tactic(auto, unfolding(crate::specs::Attending::totals_period))]
 fn step_of(seconds: u32) -> u64
     ensures { result ≡ totals_period seconds }

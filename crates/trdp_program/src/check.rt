@@ -15,10 +15,10 @@ use trdp_dataset::NodeConfig;
 use trdp_report::report;
 use trdp_script::write_whole;
 
-/// Says on the writer what a configuration (TOML) means and what its author may not have meant,
-/// and returns the exit status (profile). It is 0; 1 where the configuration is rejected, with its
-/// fault on `errors`, and after that each fault of the file; 4 where the writer or an allocation
-/// fails, with a line on `errors`. The ports for lines are files of a folder, if there is one.
+/// Says on the writer what a configuration (TOML) means and what its author may not have meant, and
+/// returns the exit status (profile). It is 0; 1 if the configuration is rejected, with its fault
+/// on `errors`, and after that each fault of the file; 4 if the writer or an allocation fails, with
+/// a line on `errors`. The ports for lines are files of a folder, if there is one.
 pub fn check_program<W: Write, E: Write>(
     alloc: Global,
     config: &[u8],
@@ -45,7 +45,7 @@ pub fn check_program<W: Write, E: Write>(
 /// Writes what a configuration means and what its author may not have meant.
 ///
 /// # Errors
-/// `Write` where the writer fails, and `OutOfMemory`.
+/// `Write` if the writer fails, and `OutOfMemory`.
 fn write_report<W: Write>(
     alloc: Global,
     config: &[u8],

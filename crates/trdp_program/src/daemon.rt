@@ -20,16 +20,15 @@ use trdp_dataset::NodeConfig;
 use trdp_report::{refused_ports, report, unjoined_groups};
 
 /// Serves a node of that configuration (TOML) over the system's sockets until the program is
-/// stopped: binds its UDP ports, and takes turns with rests between them. The line of its totals
-/// so far is offered to the writer with the first turn that begins `seconds` seconds after that of
-/// the line before, or after the clock's first reading; never where `seconds` is 0. It ends by
-/// itself where a port isn't bound or an allocation fails, and after 2^64 - 1 lines. The exit
-/// status is 1 where the configuration is rejected, 4 after another fault, and else 0. A fault
-/// gives a line on `errors`, or a front of it where `errors` fails. Nothing that happens to either
-/// stream ends it (profile).
+/// stopped: binds its UDP ports, and takes turns with rests between them. The line of its totals so
+/// far is offered to the writer with the first turn that begins `seconds` seconds after that of the
+/// line before, or after the clock's first reading; never if `seconds` is 0. It ends by itself if a
+/// port isn't bound or an allocation fails, and after 2^64 - 1 lines. The exit status is 1 if the
+/// configuration is rejected, 4 after another fault, and else 0. A fault gives a line on `errors`,
+/// or a front of it if `errors` fails. Nothing that happens to either stream ends it (profile).
 ///
-/// The configuration is looked at first, and then the ports are bound: where it is rejected,
-/// nothing is written.
+/// The configuration is looked at first, and then the ports are bound: if it is rejected, nothing
+/// is written.
 ///
 /// On `errors` comes first what the configuration means, what its author may not have meant, and
 /// which of its groups no link has joined. While the node is served, what the network refused
@@ -72,7 +71,7 @@ pub fn report_daemon<H: Files + Net + Clock + AllocGlobal, W: Stream, E: Write>(
 /// link has joined.
 ///
 /// # Errors
-/// `AllocError` where an allocation fails.
+/// `AllocError` if an allocation fails.
 fn first_words<H: Files + AllocGlobal>(
     rt: &H,
     config: &[u8],
@@ -85,7 +84,7 @@ fn first_words<H: Files + AllocGlobal>(
     Ok(text)
 }
 
-/// Writes which ports of a configuration the system refuses, where a service ended with a fault.
+/// Writes which ports of a configuration the system refuses, if a service ended with a fault.
 fn tell_ports<H: Files + Net + AllocGlobal, E: Write>(
     rt: &H,
     config: &[u8],

@@ -47,7 +47,7 @@ pub fn script_status(end: Result<(), ScriptFault>) -> u8
 /// fault` or `memory fault`; printing it allocates nothing.
 #[derive(Clone, Copy, Debug, PartialEq, Eq)]
 pub enum ServeFault {
-    /// The system refuses one of the ports.
+    /// The system refuses one of the ports, or a path.
     Bind,
     /// The output can't be written.
     Write,

@@ -2,8 +2,8 @@
 //!
 //! - [`run_program`] plays a script over a node.
 //! - [`serve_with`] serves a node over the system's sockets for a number of turns;
-//!   [`serve_program`] does so over UDP ports alone. [`ServiceOptions`] say where lines come in,
-//!   and whether a silent slot is reset.
+//!   [`serve_program`] does so only over UDP ports. [`ServiceOptions`] say where lines come in, and
+//!   whether a silent slot is reset.
 //! - [`report_daemon`] serves a node until the program is stopped.
 //! - [`check_program`] says what a configuration means, in the words of `trdp_report`. A daemon
 //!   starts with the same words.
@@ -15,15 +15,15 @@
 //! The configuration is looked at first, as bytes of TOML. The exit status is
 //! - 0 at the script's end, after the last turn, for a check without a fault, and after 2^64 - 1
 //!   lines of totals, which a daemon hardly reaches;
-//! - 1 where the configuration is rejected, with `config fault NAME` on `errors`, followed by the
-//!   key of a Missing or WrongType, or by the number of a dataset for NoDataset;
+//! - 1 if the configuration is rejected, with `config fault NAME` on `errors`, followed by the key
+//!   of a Missing or WrongType, or by the number of a dataset for NoDataset;
 //! - 3 for a bad line, with `line N fault NAME`;
-//! - 4 after a `read fault`, a `write fault` or a `memory fault`, and after a `bind fault`, where
-//!   the system refuses a port. A daemon has no `write fault`.
+//! - 4 after a `read fault`, a `write fault` or a `memory fault`, and after a `bind fault`: the
+//!   system refuses a port or a path. A daemon has no `write fault`.
 //!
 //! At status 0 nothing is on `errors`, else a front of the fault's line. A check says after it
 //! where each fault is. A daemon writes more: words before and after its fault, and lines of what
-//! the network refused. Where the configuration is rejected, the fault's line is the first.
+//! the network refused. If the configuration is rejected, the fault's line is the first.
 //!
 //! **Proved**: what a script gives and where it stops (`trdp_script::run_script`), with the exit
 //! status. For any wire and clock, the totals are those of that many turns over them

@@ -15,15 +15,15 @@ use trdp_dataset::{ConfigFault, NodeConfig};
 use trdp_script::run_script;
 use trdp_text::ConfigFaultText;
 
-/// The exit status where the configuration is rejected (profile).
+/// The exit status if the configuration is rejected (profile).
 pub const CONFIG_STATUS: u8 = 1;
 
 /// Runs a script from the reader over a node of that configuration (TOML), writes what the node
-/// gives to the writer, and returns the exit status (profile). It is 0 at the script's end, 1
-/// where the configuration is rejected, 3 for a bad line, and else 4. A fault gives one line on
-/// `errors`, or a front of it where `errors` fails. What was written before a fault stays.
+/// gives to the writer, and returns the exit status (profile). It is 0 at the script's end, 1 if
+/// the configuration is rejected, 3 for a bad line, and else 4. A fault gives one line on `errors`,
+/// or a front of it if `errors` fails. What was written before a fault stays.
 ///
-/// The configuration is looked at before the script: where it is rejected, nothing is written.
+/// The configuration is looked at before the script: if it is rejected, nothing is written.
 pub fn run_program<H: AllocGlobal, R: Read, W: Write, E: Write>(
     rt: &H,
     config: &[u8],

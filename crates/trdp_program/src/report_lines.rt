@@ -9,7 +9,7 @@ use trdp_wire::{GiveRefusal, Missing, Port, Unread};
 pub(crate) struct LostLine {
     /// How many.
     pub(crate) count: u64,
-    /// The latest of them; None where the wire keeps none.
+    /// The latest of them; None if the wire keeps none.
     pub(crate) latest: Option<GiveRefusal>,
 }
 
@@ -33,7 +33,7 @@ impl fmt::Display for LostLine {
 pub(crate) struct UnreadLine {
     /// How many.
     pub(crate) count: u64,
-    /// The latest of them; None where the wire keeps none.
+    /// The latest of them; None if the wire keeps none.
     pub(crate) latest: Option<Unread>,
 }
 

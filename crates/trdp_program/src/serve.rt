@@ -22,14 +22,13 @@ use trdp_dataset::NodeConfig;
 use trdp_udp::{RunClock, SystemSockets, UdpWire};
 use trdp_wire::Wire;
 
-/// Serves a node of that configuration (TOML) over the system's sockets: binds its UDP ports,
-/// takes `turns` turns without sleeping, writes the line of their totals to the writer, and
-/// returns the exit status (profile). It is 0 after that line, 1 where the configuration is
-/// rejected, and else 4. A fault gives one line on `errors`, or a front of it where `errors`
-/// fails.
+/// Serves a node of that configuration (TOML) over the system's sockets: binds its UDP ports, takes
+/// `turns` turns without sleeping, writes the line of their totals to the writer, and returns the
+/// exit status (profile). It is 0 after that line, 1 if the configuration is rejected, and else 4.
+/// A fault gives one line on `errors`, or a front of it if `errors` fails.
 ///
-/// The configuration is looked at first, and then the ports are bound: where it is rejected,
-/// nothing is written.
+/// The configuration is looked at first, and then the ports are bound: if it is rejected, nothing
+/// is written.
 pub fn serve_program<H: Net + Clock + AllocGlobal, W: Write, E: Write>(
     rt: &H,
     config: &[u8],
@@ -98,9 +97,9 @@ pub fn serve_with<H: Files + Net + Clock + AllocGlobal, W: Write, E: Write>(
 }
 
 /// Takes `turns` turns at a daemon, if it was opened, writes the line of their totals, and returns
-/// the exit status. The totals are those of the turns that the wire and the clock report, where
-/// they report. The system's sockets and clock report nothing, so that of them only the number of
-/// turns is left.
+/// the exit status. If the wire and the clock report, these are the totals of the turns that they
+/// report. The system's sockets and clock report nothing, so that of them only the number of turns
+/// is left.
 fn serve_turns<L: Wire + Drop, K: trdp_wire::Clock + Drop, W: Write, E: Write>(
     daemon: Result<Daemon<L, K>, (NodeConfig, L, K)>,
     turns: u32,

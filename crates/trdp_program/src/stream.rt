@@ -14,12 +14,12 @@ pub trait Stream {
     ghost use Rattle.std.specs.Prelude.{List, Option};
     ghost use Rattle.trdp_program.specs.Streams.{Attempt};
 
-    /// What it was asked to take, in order, and how much of it that took; none where this stream
+    /// What it was asked to take, in order, and how much of it that took; None if this stream
     /// reports nothing.
     ghost attempts: { Self → Option (List Attempt) };
 
-    /// Asks it to take bytes, and returns how many it took of them, from the front: 0 where it
-    /// would have to wait, or fails.
+    /// Asks it to take bytes, and returns how many it took of them, from the front: 0 if it would
+    /// have to wait, or fails.
     fn try_write(&mut self, bytes: &[u8]) -> usize
         ensures within { result ≤ length bytes.now }
         ensures told { TellsMore (attempts self.old) (attempts self.new)
@@ -30,8 +30,8 @@ pub trait Stream {
 /// wait (POSIX's PIPE_BUF on Linux).
 const PIPE_BYTES: usize = 4_096;
 
-/// Standard output or standard error, which is asked before each write whether it would wait: where
-/// it would, the write fails. What it writes to stays as it is, since others may share it.
+/// Standard output or standard error, which is asked before each write whether it would wait: if it
+/// would, the write fails. What it writes to stays as it is, since others may share it.
 #[derive(Drop)]
 pub struct Ready<W> {
     /// The system's number of the stream.

@@ -15,11 +15,11 @@ use trdp_report::fault_place;
 use trdp_script::write_whole;
 use trdp_text::ConfigFaultText;
 
-/// Room for a line, in bytes: more than the longest, that of totals.
+/// Room for a line, in bytes: more than the longest, the line of totals.
 const LINE_ROOM: usize = 160;
 
 /// Writes a fault or totals in one line, which allocates nothing, and returns whether the whole
-/// line was written. A fault is one also where its line can't be written, or only in part.
+/// line was written. A fault is a fault even if its line can't be written, or only in part.
 pub(crate) fn tell_line<D: Display + Drop, W: Write>(text: D, writer: &mut W) -> bool
     ensures told { IfSome (D.output text) (λ text.
         TellsFault text (W.contents writer.old) (W.contents writer.new)) }
@@ -65,7 +65,7 @@ pub(crate) fn tell_config_fault<E: Write>(
     }
 }
 
-/// Writes a text, or nothing where an allocation for it failed.
+/// Writes a text, or nothing if an allocation for it failed.
 pub(crate) fn tell_text<E: Write>(text: Result<String, AllocError>, errors: &mut E)
     ensures { AppendsText (E.contents errors.old) (E.contents errors.new) }
 {

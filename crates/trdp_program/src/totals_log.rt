@@ -45,7 +45,7 @@ impl TotalsLog {
     }
 
     /// Asks a stream to take the line of these totals, and before it the end of a line that was
-    /// cut; what it doesn't take is left out. `reading` is that of the last turn.
+    /// cut; what it doesn't take is left out. `reading` is the last turn's.
     ///
     /// # Errors
     /// `OutOfMemory`, and then the stream is asked for nothing.
@@ -79,7 +79,7 @@ impl TotalsLog {
 /// The line of totals, and before it the end of a line that was cut.
 ///
 /// # Errors
-/// `AllocError` where an allocation fails.
+/// `AllocError` if an allocation fails.
 fn line_of(alloc: Global, is_cut: bool, totals: Totals) -> Result<String, AllocError>
     ensures { IfOk result (λ line. string_bytes line
         ≡ cut_line_end is_cut ++ text_of_line totals) }
@@ -88,7 +88,7 @@ fn line_of(alloc: Global, is_cut: bool, totals: Totals) -> Result<String, AllocE
     format!(in alloc; "{end}{}\n", TotalsText(totals))
 }
 
-/// What ends a line that was cut; nothing where it is whole.
+/// What ends a line that was cut; nothing if it is whole.
 fn line_end(is_cut: bool) -> &'static str
     ensures { result.now ≡ cut_line_end is_cut }
 {

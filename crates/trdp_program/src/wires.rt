@@ -1,4 +1,4 @@
-//! The wire of a service: UDP ports alone, or those of the network and a folder of control
+//! The wire of a service: only UDP ports, or the UDP ports of the network and a folder of control
 //! sockets.
 
 ghost use Rattle.std.specs.Prelude.{◌≡◌, IfOk, IfErr};
@@ -25,7 +25,7 @@ pub(crate) enum ServiceWire<N: WatchedWire, C: Connections> {
     Controls(ControlWire<N, C>),
 }
 
-/// The wire of a network, at the ports of which some have sockets.
+/// A wire of the network, with sockets for all ports or only for the network's.
 pub(crate) trait NetworkWire: WatchedWire {
     ghost use Rattle.std.specs.Prelude.{IfErr};
     ghost use Rattle.trdp_udp.specs.declared.bound_ports.BoundPorts.{BoundPorts};
@@ -37,11 +37,11 @@ pub(crate) trait NetworkWire: WatchedWire {
     /// Whether it has refused a registry with this fault.
     ghost refuses: { Self → BindFault → Type 0 };
 
-    /// Where the system is asked to end a rest for something else too; None where this wire never
+    /// Where the system is asked to end a rest also for something else; None if this wire never
     /// waits.
     ///
     /// # Errors
-    /// `OutOfMemory` where the system is out of memory for it, and else `Bind`.
+    /// `OutOfMemory` if the system is out of memory for it, and else `Bind`.
     fn path_registry(&self) -> Result<Option<Registry>, BindFault>
         ensures { IfErr result (refuses self.now) };
 }
@@ -81,7 +81,7 @@ pub(crate) fn folder_at<'a, H: Files + Net + AllocGlobal>(
     Some(SystemFolder::new(rt, rt.alloc(), path?))
 }
 
-/// Which ports of a configuration have sockets where there may be a folder of control sockets.
+/// Which ports of a configuration have sockets, with or without a folder of control sockets.
 pub(crate) fn ports_beside<F>(folder: &Option<F>) -> BoundPorts
     ensures { result ≡ ports_beside folder.now }
 {
@@ -91,11 +91,11 @@ pub(crate) fn ports_beside<F>(folder: &Option<F>) -> BoundPorts
     }
 }
 
-/// The wire of a service over that of its network, if this was opened: beside a folder it listens
+/// The wire of a service over its network's wire, if this was opened: beside a folder it listens
 /// there at the paths of a configuration.
 ///
 /// # Errors
-/// The network's fault. `Bind` where the folder refuses a path or the network a registry, and
+/// The network's fault. `Bind` if the folder refuses a path or the network a registry, and
 /// `OutOfMemory`.
 pub(crate) fn wire_over<N: NetworkWire + Drop, S: Drop, C: Connections + Drop, F: Folder<C> + Drop>(
     alloc: Global,

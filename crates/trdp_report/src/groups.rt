@@ -15,10 +15,10 @@ const JOINED: &str = "/proc/net/igmp";
 const DIGITS: usize = 8;
 
 /// A line for each group of a node that no link has joined, so that nothing comes from there; none
-/// where the system doesn't report which are joined.
+/// if the system doesn't report which are joined.
 ///
 /// # Errors
-/// `AllocError` where an allocation fails.
+/// `AllocError` if an allocation fails.
 pub fn unjoined_groups<R: Files + AllocGlobal>(
     rt: &R,
     alloc: Global,

@@ -23,7 +23,7 @@ impl HeldPorts {
     /// Nothing yet, and room for that many ports.
     ///
     /// # Errors
-    /// `AllocError` where an allocation fails.
+    /// `AllocError` if an allocation fails.
     pub(crate) fn with_room(alloc: Global, ports: usize) -> Result<HeldPorts, AllocError> {
         Ok(HeldPorts {
             sockets: Vec::with_capacity(alloc, ports)?,

@@ -8,8 +8,8 @@
 //! let text = refused_ports(rt, alloc, &taken, None)?;     // port 10.0.0.1:17224: ..
 //! ```
 //!
-//! Each returns lines, or none where there is nothing to say. `trdp_program` writes them for a
-//! check and for a daemon.
+//! Each returns lines, or none if there is nothing to say. `trdp_program` writes them for a check
+//! and for a daemon.
 //!
 //! The words are **tested**, not proved: no function has clauses, so a text that is left out
 //! breaks none. Tests show which words come, and at which place of the file.
@@ -29,5 +29,5 @@ pub use groups::unjoined_groups;
 pub use refused::refused_ports;
 pub use words::report;
 
-// What is wrong with it, so that a program names this crate alone.
+// What is wrong with it, so that a program needs only this crate.
 pub use trdp_dataset::fault_place;

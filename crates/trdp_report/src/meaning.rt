@@ -22,7 +22,7 @@ impl<'a> Setup<'a> {
     /// slot, one for the spare control ports, and one for each dataset.
     ///
     /// # Errors
-    /// `AllocError` where an allocation fails.
+    /// `AllocError` if an allocation fails.
     pub(crate) fn push_meaning(self, text: &mut String) -> Result<(), AllocError> {
         self.push_node(text)?;
         self.push_groups(text)?;
@@ -36,7 +36,7 @@ impl<'a> Setup<'a> {
     /// Adds the line of the node, and the one of its operator's port.
     ///
     /// # Errors
-    /// `AllocError` where an allocation fails.
+    /// `AllocError` if an allocation fails.
     fn push_node(self, text: &mut String) -> Result<(), AllocError> {
         let config = self.config;
         let (address, pd, md) = (shown(config.address()), config.pd_port(), config.md_port());
@@ -53,7 +53,7 @@ impl<'a> Setup<'a> {
     /// Adds the line of each group, with the command by which a link joins it.
     ///
     /// # Errors
-    /// `AllocError` where an allocation fails.
+    /// `AllocError` if an allocation fails.
     fn push_groups(self, text: &mut String) -> Result<(), AllocError> {
         for group in self.config.groups() {
             let group = shown(Ip(*group));
@@ -68,7 +68,7 @@ impl<'a> Setup<'a> {
     /// Adds the line of a slot.
     ///
     /// # Errors
-    /// `AllocError` where an allocation fails.
+    /// `AllocError` if an allocation fails.
     fn push_slot(self, text: &mut String, slot: u16) -> Result<(), AllocError> {
         write!(text, "slot {slot}")?;
         match self.site(Port::Control(slot)) {
@@ -84,7 +84,7 @@ impl<'a> Setup<'a> {
     /// Adds the line of the spare control ports, if there are any.
     ///
     /// # Errors
-    /// `AllocError` where an allocation fails.
+    /// `AllocError` if an allocation fails.
     fn push_spare_ports(self, text: &mut String) -> Result<(), AllocError> {
         let config = self.config;
         if config.spare_control_ports() == 0 {
@@ -107,7 +107,7 @@ impl<'a> Setup<'a> {
     /// Adds the lines of the datasets.
     ///
     /// # Errors
-    /// `AllocError` where an allocation fails.
+    /// `AllocError` if an allocation fails.
     fn push_datasets(self, text: &mut String) -> Result<(), AllocError> {
         let registry = self.config.registry();
         for index in 0..registry.len() {
@@ -127,7 +127,7 @@ impl<'a> Setup<'a> {
 /// Adds the quotas of a slot.
 ///
 /// # Errors
-/// `AllocError` where an allocation fails.
+/// `AllocError` if an allocation fails.
 fn push_quotas(text: &mut String, quotas: Quotas) -> Result<(), AllocError> {
     let mut mark = ":";
     for (kind, name) in KINDS.iter().enumerate() {

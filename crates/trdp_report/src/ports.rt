@@ -27,7 +27,8 @@ impl<'a> Site<'a> {
         }
     }
 
-    /// Where a port is that is this one and another at some address.
+    /// The site that both ports share: the other port's if this one is at every address, else this
+    /// one's.
     pub(crate) fn shared_with(self, other: Site<'a>) -> Site<'a> {
         match self {
             Site::Udp(place) if place.ip().is_unspecified() => other,

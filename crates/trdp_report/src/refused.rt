@@ -16,7 +16,7 @@ use trdp_dataset::NodeConfig;
 /// what runs out, for example descriptors.
 ///
 /// # Errors
-/// `AllocError` where an allocation fails.
+/// `AllocError` if an allocation fails.
 pub fn refused_ports<R: Files + Net>(
     rt: &R,
     alloc: Global,
@@ -34,7 +34,7 @@ pub fn refused_ports<R: Files + Net>(
 /// to wait at them, if the system refuses that.
 ///
 /// # Errors
-/// `AllocError` where an allocation fails.
+/// `AllocError` if an allocation fails.
 fn refusals<R: Files + Net>(
     rt: &R,
     alloc: Global,

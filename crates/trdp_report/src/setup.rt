@@ -12,12 +12,12 @@ use trdp_wire::{Port, place_of_port, ports_of};
 pub(crate) struct Setup<'a> {
     /// Its configuration.
     pub(crate) config: &'a NodeConfig,
-    /// The folder whose files the ports for lines are; None where these are UDP ports.
+    /// The folder whose files the ports for lines are; None if these are UDP ports.
     pub(crate) folder: Option<&'a str>,
 }
 
 impl<'a> Setup<'a> {
-    /// Where a port is; None where the configuration names none.
+    /// Where a port is; None if the configuration names none.
     pub(crate) fn site(self, port: Port) -> Option<Site<'a>> {
         let place = place_of_port(self.config, port);
         match (port, self.folder) {
@@ -32,7 +32,7 @@ impl<'a> Setup<'a> {
     /// The ports, in the order in which they are bound.
     ///
     /// # Errors
-    /// `AllocError` where an allocation fails.
+    /// `AllocError` if an allocation fails.
     pub(crate) fn ports(self, alloc: Global) -> Result<Vec<NamedPort<'a>>, AllocError> {
         let mut ports = Vec::new(alloc);
         for port in ports_of(alloc, self.config)? {

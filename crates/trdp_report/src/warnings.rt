@@ -16,7 +16,7 @@ impl<'a> Setup<'a> {
     /// meant.
     ///
     /// # Errors
-    /// `AllocError` where an allocation fails.
+    /// `AllocError` if an allocation fails.
     pub(crate) fn push_warnings(self, text: &mut String, alloc: Global) -> Result<(), AllocError> {
         let config = self.config;
         let ports = self.ports(alloc)?;
@@ -38,10 +38,10 @@ impl<'a> Setup<'a> {
         self.push_long_datasets(text)
     }
 
-    /// Adds a warning where the control ports are at an address that the network reaches.
+    /// Adds a warning if the control ports are at an address that the network reaches.
     ///
     /// # Errors
-    /// `AllocError` where an allocation fails.
+    /// `AllocError` if an allocation fails.
     fn push_control_address(self, text: &mut String) -> Result<(), AllocError> {
         let config = self.config;
         let address = shown(config.control_address());
@@ -62,7 +62,7 @@ impl<'a> Setup<'a> {
     /// Adds a warning if no application can use a slot, and one if it can hold nothing.
     ///
     /// # Errors
-    /// `AllocError` where an allocation fails.
+    /// `AllocError` if an allocation fails.
     fn push_useless_slot(self, text: &mut String, slot: u16) -> Result<(), AllocError> {
         if self.site(Port::Control(slot)).is_none() {
             writeln!(
@@ -82,7 +82,7 @@ impl<'a> Setup<'a> {
     /// Adds a warning for each dataset that is longer than process data carries.
     ///
     /// # Errors
-    /// `AllocError` where an allocation fails.
+    /// `AllocError` if an allocation fails.
     fn push_long_datasets(self, text: &mut String) -> Result<(), AllocError> {
         let registry = self.config.registry();
         for index in 0..registry.len() {
@@ -100,10 +100,10 @@ impl<'a> Setup<'a> {
     }
 }
 
-/// Adds a warning where an address is none of a device's own.
+/// Adds a warning if an address is none of a device's own.
 ///
 /// # Errors
-/// `AllocError` where an allocation fails.
+/// `AllocError` if an allocation fails.
 fn push_address(text: &mut String, key: &str, address: Ipv4Addr) -> Result<(), AllocError> {
     if address.is_unspecified() {
         return writeln!(
@@ -129,7 +129,7 @@ fn push_address(text: &mut String, key: &str, address: Ipv4Addr) -> Result<(), A
 /// Adds a warning for each port that is named before.
 ///
 /// # Errors
-/// `AllocError` where an allocation fails.
+/// `AllocError` if an allocation fails.
 fn push_collisions(text: &mut String, ports: &[NamedPort]) -> Result<(), AllocError> {
     for (index, port) in ports.iter().enumerate() {
         if let Some(first) = port.first_among(ports, index) {
@@ -148,7 +148,7 @@ fn push_collisions(text: &mut String, ports: &[NamedPort]) -> Result<(), AllocEr
 /// Adds a warning for each path that is longer than the system accepts.
 ///
 /// # Errors
-/// `AllocError` where an allocation fails.
+/// `AllocError` if an allocation fails.
 fn push_long_paths(
     text: &mut String,
     alloc: Global,

@@ -8,7 +8,7 @@ use trdp_dataset::{NodeConfig, name_doubts, telegram_doubts, unknown_keys};
 /// bytes (TOML); the ports for lines are files of a folder, if there is one.
 ///
 /// # Errors
-/// `AllocError` where an allocation fails.
+/// `AllocError` if an allocation fails.
 pub fn report(
     alloc: Global,
     file: &[u8],

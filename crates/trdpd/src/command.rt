@@ -46,8 +46,8 @@ pub enum Work {
 /// - `serve` and `daemon` may have `--lease` with a number of 1 to 86,400.
 ///
 /// # Errors
-/// The text is for the user. The kind is `OutOfMemory` where an allocation fails, `DisplayHelp`
-/// and `DisplayVersion` at a request for help or for the version, and another for wrong words.
+/// The text is for the user. The kind is `OutOfMemory` if an allocation fails, `DisplayHelp` and
+/// `DisplayVersion` at a request for help or for the version, and another for wrong words.
 pub fn read_words<'a>(alloc: Global, words: &'a [String]) -> Result<Task<'a>, Error> {
     let matches = command(alloc)?.try_get_matches_from(words)?;
     Ok(task_of(&matches))

@@ -2,8 +2,8 @@
 //!
 //! - `trdpd check CONFIG` says on standard output what the configuration in the file CONFIG (TOML)
 //!   means, and what its author may not have meant.
-//! - `trdpd run CONFIG` reads the configuration and, where nothing is wrong with it, the script
-//!   from standard input. What the node gives its slots goes to standard output.
+//! - `trdpd run CONFIG` reads the configuration and, if nothing is wrong with it, the script from
+//!   standard input. What the node gives its slots goes to standard output.
 //! - `trdpd serve CONFIG --turns N` reads the configuration in the same way, binds the node's UDP
 //!   ports at its address, and takes N turns without sleeping. Then `taken T offered O lost L
 //!   unread U memory M` goes to standard output. T datagrams came and O were offered to the
@@ -25,15 +25,15 @@
 //! The exit status is
 //! - 0 at the script's end, after the last turn, for a configuration without a fault, and for the
 //!   version;
-//! - 1 where the configuration is rejected, with `config fault NAME` on standard error, followed
-//!   by the key of a Missing or WrongType, or by the number of a dataset for NoDataset. A check
-//!   and a daemon say after that line where each fault is, and what is expected there. A file that
-//!   can't be read is `config fault Unreadable`, or `config fault OutOfMemory` where an allocation
-//!   fails while it is read; a check and a daemon say in a second line which file, and why;
+//! - 1 if the configuration is rejected, with `config fault NAME` on standard error, followed by
+//!   the key of a Missing or WrongType, or by the number of a dataset for NoDataset. A check and a
+//!   daemon say after that line where each fault is, and what is expected there. A file that can't
+//!   be read is `config fault Unreadable`, or `config fault OutOfMemory` if an allocation fails
+//!   while it is read; a check and a daemon say in a second line which file, and why;
 //! - 2 for other words, with the usage;
 //! - 3 for a bad line, with `line N fault NAME`;
-//! - 4 after a `read fault`, a `write fault` or a `memory fault`, and after a `bind fault`, where
-//!   the system refuses a port. A daemon has no `write fault`.
+//! - 4 after a `read fault`, a `write fault` or a `memory fault`, and after a `bind fault`: the
+//!   system refuses a port or a path. A daemon has no `write fault`.
 //!
 //! **Proved**, in the contracts of `trdp_program`'s `run_program`, `serve_with`, `check_program`
 //! and `report_daemon`: what it does in each case, with the exit status. They don't say which words
@@ -111,7 +111,7 @@ fn tell_version(rt: &impl Print) -> u8 {
     0
 }
 
-/// Reads the configuration's file; None where that fails, with a line on standard error and, for a
+/// Reads the configuration's file; None if that fails, with a line on standard error and, for a
 /// check and a daemon, a second that says why.
 fn read_file(rt: &HostRuntime, task: &Task) -> Option<Vec<u8>> {
     let path = task.path;
