@@ -245,7 +245,7 @@ no_lines config lease step told = record {
   told = adds_none told;
 }
 
--- the same where a port or a path is refused
+-- the same if a port or a path is refused
 pub early_end : (fault : BindFault) (config : ConfigModel) (lease : Option ℕ) (step : ℕ)
     (told : Option (List Attempt)) → WritesUpTo (serve_fault fault) config lease step told told
 early_end bind.Bind config lease step told = adds_none told

@@ -65,7 +65,7 @@ told (Some text) start line made r old new bytes empty intact good wrote is whol
     (line_bytes text start line made bytes empty intact good wrote is)
     (partly_written r old new bytes whole front)
 
--- the same, where it was written whole
+-- the same, if it was written whole
 pub told_whole : {A B E F : Type 0} {n : ℕ} (output : Option (List ℕ)) (start line : InlineText n)
     (made : Result A E) (r : Result B F) (old new : Option (List ℕ)) (bytes : List ℕ)
     → inline_text start ≡ [] → IsIntact start → is_ok made ≡ true

@@ -53,7 +53,7 @@ counted_over {takings_in = takings_in} {gives_in} {readings_in} {config} {lease}
       totals_are = is;
     }
 
--- what is known of totals whose line wasn't written, where less is asked
+-- what is known of totals whose line wasn't written, if less is asked
 unwritten_less : (P Q : Totals → Type 0) (fault : ServeFault) (old new : Option (List ℕ))
     → ((totals : Totals) → P totals → Q totals) → WritesNoTotals fault P old new
     → WritesNoTotals fault Q old new
@@ -107,7 +107,7 @@ serves_config {takings_in = takings_in} {gives_in} {readings_in} {config = confi
       });
     })
 
--- nothing is written where a port or a path is refused
+-- nothing is written if a port or a path is refused
 early_fault : (counts : Totals → Type 0) (fault : BindFault) (told : Option (List ℕ))
     → WritesNoTotals (serve_fault fault) counts told told
 early_fault counts bind.Bind told = Keeps-refl told

@@ -17,7 +17,7 @@ cut_last before (b ∷ c ∷ bytes) byte last =
     cut_last (not (b == 10)) (c ∷ bytes) byte
     (ap (slice_get (b ∷ c ∷ bytes)) (sym at) ∙ last)
 
--- where there is none, it is as before
+-- if there is none, it is as before
 pub cut_none : (before : Bool) (bytes : List ℕ) → slice_get bytes (length bytes - 1) ≡ None
     → is_cut_behind before bytes ≡ before
 cut_none before [] none = refl

@@ -89,8 +89,8 @@ AreLines config lease step (line ∷ earlier) =
     IsNextLine config lease step (turns_so_far earlier) (gives_so_far earlier) line
     × AreLines config lease step earlier
 
--- what the stream is asked to take for a line, where it took these before: the end of a line that
--- was cut, and then the whole line
+-- what the stream is asked to take for a line, if it took these before: the end of a line that was
+-- cut, and then the whole line
 abbrev pub bytes_of_line : List Attempt → TotalsLine → List ℕ
 bytes_of_line before line =
     cut_line_end (is_cut_behind false (written_by before)) ++ text_of_line line.totals
@@ -217,8 +217,8 @@ pub record AttendsConfig (bytes : List ℕ) (lease : Option ℕ) (step : ℕ)
   pub more : AppendsText behind errors_then
 
 -- a daemon's service over these bytes of a configuration, with this lease: what the writer was
--- asked to take and what the error stream had before and after it, and the status. Where the bytes
--- are none, the writer was asked for nothing
+-- asked to take and what the error stream had before and after it, and the status. If the bytes are
+-- none, the writer was asked for nothing
 abbrev pub AttendsProgram : List ℕ → Option ℕ → ℕ → Option (List Attempt) → Option (List Attempt)
     → Option (List ℕ) → Option (List ℕ) → ℕ → Type 0
 AttendsProgram bytes lease step old new errors errors_then status =

@@ -41,7 +41,7 @@ pub record FailsToReport (bytes : List ℕ) (old new errors errors_then : Option
   pub told : TellsFault (text_of_serve_fault fault) errors errors_then
 
 -- a check of these bytes as a configuration: what the writer and the error stream had before and
--- have after it, and the status. Where the bytes are none, nothing was written
+-- have after it, and the status. If the bytes are none, nothing was written
 abbrev pub ChecksProgram : List ℕ → Option (List ℕ) → Option (List ℕ) → Option (List ℕ)
     → Option (List ℕ) → ℕ → Type 0
 ChecksProgram bytes old new errors errors_then status =

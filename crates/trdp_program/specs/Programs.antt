@@ -27,8 +27,8 @@ pub record TakesNoConfig (bytes : List ℕ) (old new errors errors_then : Option
   pub quiet : Keeps old new
   pub told : TellsFault (text_of_config_fault fault) errors errors_then
 
--- the bytes are a configuration, over which the script was run, where the reader reports its
--- bytes; the status is that of the script, and the error stream gets its fault
+-- the bytes are a configuration, over which the script was run, if the reader reports its bytes;
+-- the status is that of the script, and the error stream gets its fault
 pub record RunsOverConfig (bytes : List ℕ)
     (unread left old new errors errors_then : Option (List ℕ)) (status : ℕ) : Type 0 where
   pub config : ConfigModel

@@ -39,7 +39,7 @@ IsServiceWire bound path_of file_of config network (Some folder) (Udp wire) = �
 IsServiceWire bound path_of file_of config network (Some folder) (Controls wire) =
     ListensIn file_of config (path_of folder) network wire × (bound network ≡ Network)
 
--- the same, where the network's wire was opened
+-- the same, if the network's wire was opened
 abbrev pub IsBeside : {N S C F : Type 0} → (bound : N → BoundPorts) → (path_of : F → List ℕ)
     → (file_of : C → List ℕ) → ConfigModel → Result N (BindFault × S) → Option F
     → ServiceWire N C → Type 0

@@ -68,8 +68,8 @@ pub record ServesToEnd (counts : Totals → Type 0) (old new errors errors_then 
   pub written : WritesTotals totals old new
   pub faultless : Keeps errors errors_then
 
--- what a service that ends with this fault has written: where the output can't be written a front
--- of the line of totals of which this holds, and else nothing
+-- what a service that ends with this fault has written: if the output can't be written, a front of
+-- the line of totals of which this holds, and else nothing
 abbrev pub WritesNoTotals : ServeFault → (Totals → Type 0) → Option (List ℕ) → Option (List ℕ)
     → Type 0
 WritesNoTotals Bind counts old new = Keeps old new

@@ -14,8 +14,8 @@ abbrev pub written_by : List Attempt → List ℕ
 written_by [] = []
 written_by (one ∷ more) = take one.count one.bytes ++ written_by more
 
--- whether a line is cut after these bytes, of which the last isn't its end; as before where there
--- are none
+-- whether a line is cut after these bytes, of which the last isn't its end; as before if there are
+-- none
 abbrev pub is_cut_behind : Bool → List ℕ → Bool
 is_cut_behind before [] = before
 is_cut_behind before (byte ∷ bytes) = is_cut_behind (not (byte == 10)) bytes

@@ -56,11 +56,6 @@ fn write_report<W: Write>(
     ensures written { AppendsText (W.contents writer.old) (W.contents writer.new) }
     ensures err { IfErr result (λ fault. fault ≢ ServeFault.Bind) }
 {
-    let Ok(text) = report(alloc, config, taken, folder) else {
-        return Err(ServeFault::OutOfMemory);
-    };
-    match write_whole(writer, text.as_bytes()) {
-        Ok(()) => Ok(()),
-        Err(_) => Err(ServeFault::Write),
-    }
+    let text = report(alloc, config, taken, folder).map_err(|_| ServeFault::OutOfMemory)?;
+    write_whole(writer, text.as_bytes()).map_err(|_| ServeFault::Write)
 }

@@ -41,9 +41,14 @@
 //! the folder refused a file. `UdpWire::open` and `RestingWire::open` of `trdp_udp` are refused
 //! only if the sockets refuse a call. A `bind fault` is such a refusal (`ServeFault::from`).
 //!
-//! **Tested**: the words on `errors`, of which a text that is left out, or another in its place,
-//! breaks no contract; and what the system says to a write. [`Ready`] asks it before each one
-//! whether it would wait, and is tested over pipes and devices that are full or gone.
+//! Of a daemon's reports it is proved what one look writes (`Reports::look` in `reports`): a line
+//! about lost gives or failed takes has their number since the line before that was written whole,
+//! and there is none if nothing is new. The next look is due a second later.
+//!
+//! **Tested**: the other words on `errors`, and that a daemon looks at all: a text that is left
+//! out, or another text instead of it, breaks no contract. Also what the system says to a write.
+//! [`Ready`] asks it before each one whether it would wait, and is tested over pipes and devices
+//! that are full or gone.
 //!
 //! **Trusted**, and tested over daemons: [`serve_with`] and [`report_daemon`] open their wire over
 //! the system's sockets with the folder of their options, serve the node over that wire, and write

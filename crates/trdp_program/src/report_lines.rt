@@ -4,54 +4,35 @@ use std::fmt;
 use std::net::{Ipv4Addr, SocketAddrV4};
 use trdp_wire::{GiveRefusal, Missing, Port, Unread};
 
-/// The line about gives that were lost since the line before.
+/// What a line says of the latest give that was lost; nothing if the wire keeps none.
 #[derive(Clone, Copy)]
-pub(crate) struct LostLine {
-    /// How many.
-    pub(crate) count: u64,
-    /// The latest of them; None if the wire keeps none.
-    pub(crate) latest: Option<GiveRefusal>,
-}
+pub(crate) struct LatestLost(pub(crate) Option<GiveRefusal>);
 
-impl fmt::Display for LostLine {
+impl fmt::Display for LatestLost {
     fn fmt<W: fmt::Write>(&self, f: &mut fmt::Formatter<W>) -> fmt::Result {
-        let count = self.count;
-        write!(f, "lost {count} since the last line")?;
-        match self.latest {
-            Some(GiveRefusal { port, to, fault }) => {
-                let place = SocketAddrV4::new(Ipv4Addr::from_bits(to.ip.0), to.port);
-                let from = PortText(port);
-                write!(f, ", the latest from {from} to {place}: {fault}")
-            }
-            None => Ok(()),
+        if let Some(GiveRefusal { port, to, fault }) = self.0 {
+            let place = SocketAddrV4::new(Ipv4Addr::from_bits(to.ip.0), to.port);
+            let from = PortText(port);
+            write!(f, ", the latest from {from} to {place}: {fault}")?;
         }
+        Ok(())
     }
 }
 
-/// The line about takes that failed since the line before.
+/// What a line says of the latest take that failed; nothing if the wire keeps none.
 #[derive(Clone, Copy)]
-pub(crate) struct UnreadLine {
-    /// How many.
-    pub(crate) count: u64,
-    /// The latest of them; None if the wire keeps none.
-    pub(crate) latest: Option<Unread>,
-}
+pub(crate) struct LatestUnread(pub(crate) Option<Unread>);
 
-impl fmt::Display for UnreadLine {
+impl fmt::Display for LatestUnread {
     fn fmt<W: fmt::Write>(&self, f: &mut fmt::Formatter<W>) -> fmt::Result {
-        let count = self.count;
-        write!(f, "unread {count} since the last line")?;
-        match self.latest {
-            Some(Unread { port, fault }) => {
-                let at = PortText(port);
-                write!(f, ", the latest at {at}")?;
-                match fault.code {
-                    Some(_) => write!(f, ": {fault}"),
-                    None => Ok(()),
-                }
+        if let Some(Unread { port, fault }) = self.0 {
+            let at = PortText(port);
+            write!(f, ", the latest at {at}")?;
+            if fault.code.is_some() {
+                write!(f, ": {fault}")?;
             }
-            None => Ok(()),
         }
+        Ok(())
     }
 }
 

@@ -15,16 +15,17 @@ use trdp_report::fault_place;
 use trdp_script::write_whole;
 use trdp_text::ConfigFaultText;
 
-/// Room for a line, in bytes: more than the longest, the line of totals.
-const LINE_ROOM: usize = 160;
+/// Room for a line, in bytes: more than the longest, a line of a daemon's reports.
+const LINE_ROOM: usize = 384;
 
-/// Writes a fault or totals in one line, which allocates nothing, and returns whether the whole
-/// line was written. A fault is a fault even if its line can't be written, or only in part.
+/// Writes a text in one line, which allocates nothing, and returns whether the whole line was
+/// written. A fault is a fault even if its line can't be written, or only in part.
 pub(crate) fn tell_line<D: Display + Drop, W: Write>(text: D, writer: &mut W) -> bool
     ensures told { IfSome (D.output text) (λ text.
         TellsFault text (W.contents writer.old) (W.contents writer.new)) }
     ensures whole { result ≡ true → IfSome (D.output text) (λ text.
         Appends (W.contents writer.old) (W.contents writer.new) (text ++ codes "\n")) }
+    ensures appends { AppendsText (W.contents writer.old) (W.contents writer.new) }
 {
     let mut line = InlineText::<LINE_ROOM>::new();
     if writeln!(line, "{text}").is_ok() {

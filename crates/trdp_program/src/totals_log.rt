@@ -89,7 +89,7 @@ fn line_of(alloc: Global, is_cut: bool, totals: Totals) -> Result<String, AllocE
 }
 
 /// What ends a line that was cut; nothing if it is whole.
-fn line_end(is_cut: bool) -> &'static str
+pub(crate) fn line_end(is_cut: bool) -> &'static str
     ensures { result.now ≡ cut_line_end is_cut }
 {
     if is_cut { "\n" } else { "" }

@@ -20,7 +20,7 @@ returns-then-due-reading-clause-served g c = λ config lease wire clock n before
 pub returns-then-due-reading-clause-losses : goal.returns-then-due-reading-clause-losses
 returns-then-due-reading-clause-losses g c =
     text_both (g.E.Write.contents c.args.errors.now) (g.E.Write.contents c.loop-look.errors)
-    (g.E.Write.contents c.look.new.errors) c.loop-look.invariant.1 c.look.ensures
+    (g.E.Write.contents c.look.new.errors) c.loop-look.invariant.1 c.look.ensures.appends
 
 pub loop-look-preserved : goal.loop-look-preserved
 loop-look-preserved g c =
@@ -31,7 +31,7 @@ loop-look-preserved g c =
           let on = c.attend-reading.ensures.served config lease wire clock so_far.n so_far.served in
           looks_more so_far on within sooner,
       text_both (g.E.Write.contents c.args.errors.now) (g.E.Write.contents c.loop-look.errors)
-          (g.E.Write.contents c.look.new.errors) c.loop-look.invariant.1 c.look.ensures,
+          (g.E.Write.contents c.look.new.errors) c.loop-look.invariant.1 c.look.ensures.appends,
     )
 
 pub returns-clause-served : goal.returns-clause-served
