@@ -1,9 +1,13 @@
 -- What a daemon reports on the error stream while it serves.
-use Rattle.std.specs.Prelude.{◌≡◌, ◌⊎◌, ℕ, ◌+◌, ◌-◌, ◌^◌, ◌<◌, ◌≤◌, min, nat_lt, if◌then◌else◌}
+use Rattle.std.specs.Prelude.{◌≡◌, ◌⊎◌, ℕ, zero, suc, ◌+◌, ◌-◌, ◌^◌, ◌<◌, ◌≤◌, min, nat_lt}
+use Rattle.std.specs.Prelude.{if◌then◌else◌}
 use Rattle.std.specs.Prelude.{Bool, false, List, ◌++◌, codes, Option}
 use Rattle.std.specs.Io.KnownBytes.{Appends}
 use Rattle.trdp_base.specs.NumberText.{text_of_number}
+use Rattle.trdp_daemon.specs.Daemons.{DaemonState}
+use Rattle.trdp_daemon.specs.Resting.{AttendsUntil}
 use Rattle.trdp_daemon.specs.declared.totals.Totals.{Totals}
+use Rattle.trdp_wire.specs.Told.{Taking, Give}
 use Rattle.trdp_script.specs.Writes.{PartlyWrites}
 use Rattle.trdp_program.specs.Faults.{AppendsText}
 use Rattle.trdp_program.specs.Streams.{cut_line_end}
@@ -58,3 +62,34 @@ pub record Looks (totals : Totals) (old new : Reports) (errors errors_then : Opt
   pub unread : TellsCount (codes "unread") old.unread totals.unread new.unread is_cut_lost
       is_cut_unread behind_lost behind_unread
   pub missing : AppendsText behind_unread errors_then
+
+-- after a turn at this reading of the clock there was a look, if it was due
+pub record LooksIfDue (reading : ℕ) (totals : Totals) (old new : Reports)
+    (errors errors_then : Option (List ℕ)) : Type 0 where
+  pub due : new.due ≡ next_look reading old.due
+  pub quiet : reading < old.due → (new ≡ old) × (errors_then ≡ errors)
+  pub told : old.due ≤ reading → Looks totals old new errors errors_then
+
+-- a daemon attended to its node until a line was due, at `due`, or a look; then there was that look
+pub record AttendsToLook {W C : Type 0} (takings_in : W → Option (List Taking))
+    (gives_in : W → Option (List Give)) (rested_in : W → W → ℕ → Type 0)
+    (readings_in : C → Option (List ℕ)) (due : ℕ) (old new : DaemonState W C)
+    (reports reports_then : Reports) (errors errors_then : Option (List ℕ)) : Type 0 where
+  pub reading : ℕ
+  pub attends : AttendsUntil takings_in gives_in rested_in readings_in (min due reports.due)
+      reading old new
+  pub looks : LooksIfDue reading new.totals reports reports_then errors errors_then
+
+-- that n times, one after the other
+abbrev pub AttendsToLooks : {W C : Type 0} → (W → Option (List Taking)) → (W → Option (List Give))
+    → (W → W → ℕ → Type 0) → (C → Option (List ℕ)) → ℕ → ℕ → DaemonState W C → DaemonState W C
+    → Reports → Reports → Option (List ℕ) → Option (List ℕ) → Type 0
+AttendsToLooks takings_in gives_in rested_in readings_in due zero old new reports reports_then
+    errors errors_then = (new ≡ old) × (reports_then ≡ reports) × (errors_then ≡ errors)
+AttendsToLooks {W} {C} takings_in gives_in rested_in readings_in due (suc n) old new reports
+    reports_then errors errors_then =
+    (before : DaemonState W C) × (reports_before : Reports) × (errors_before : Option (List ℕ))
+    × AttendsToLooks takings_in gives_in rested_in readings_in due n old before reports
+        reports_before errors errors_before
+    × AttendsToLook takings_in gives_in rested_in readings_in due before new reports_before
+        reports_then errors_before errors_then

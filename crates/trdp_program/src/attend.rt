@@ -6,6 +6,7 @@ ghost use Rattle.trdp_daemon.specs.Daemons.{HasServed};
 ghost use Rattle.trdp_program.specs.Attending.{FailsOver, ServesUntilDue, totals_period};
 ghost use Rattle.trdp_program.specs.Attending.{WritesAllLines, WritesLinesOver, WritesUpTo};
 ghost use Rattle.trdp_program.specs.Faults.{AppendsText};
+ghost use Rattle.trdp_program.specs.Reporting.{AttendsToLooks};
 ghost use Rattle.trdp_program.specs.Serving.{lease_of};
 
 use crate::faults::ServeFault;
@@ -137,6 +138,9 @@ fn attend_until<L: WatchedWire, C: trdp_wire::Clock, E: Write>(
         → (before : HasServed L.takings L.gives C.readings config lease wire clock n daemon.old)
         → ServesUntilDue L.takings L.gives C.readings config lease wire clock
         before.turns before.gives due result daemon.new }
+    ensures looked { (n : ℕ) × AttendsToLooks L.takings L.gives L.rested C.readings due n
+        daemon.old daemon.new reports.old reports.new
+        (E.contents errors.old) (E.contents errors.new) }
     ensures losses { AppendsText (E.contents errors.old) (E.contents errors.new) }
 {
     let mut reading = 0;
