@@ -90,6 +90,6 @@ AttendsToLooks {W} {C} takings_in gives_in rested_in readings_in due (suc n) old
     reports_then errors errors_then =
     (before : DaemonState W C) × (reports_before : Reports) × (errors_before : Option (List ℕ))
     × AttendsToLooks takings_in gives_in rested_in readings_in due n old before reports
-        reports_before errors errors_before
+    reports_before errors errors_before
     × AttendsToLook takings_in gives_in rested_in readings_in due before new reports_before
-        reports_then errors_before errors_then
+    reports_then errors_before errors_then

@@ -149,7 +149,8 @@ impl Reports {
         let count = total - told;
         let latest = InlineText::<LATEST_ROOM>::of(latest);
         let latest = latest.as_str();
-        if self.tell(format_args!("{what} {count} since the last line{latest}"), errors) {
+        let line = format_args!("{what} {count} since the last line{latest}");
+        if self.tell(line, errors) {
             return total;
         }
         told
