@@ -10,7 +10,7 @@
 //! ```text
 //! let network = RestingWire::open(alloc, sockets, clock, &config, BoundPorts::Network)?;
 //! let mut folder = SystemFolder::new(rt, alloc, "/run/trdpd");
-//! folder.report_to(network.registry()?);
+//! folder.report_to(network.sockets().registry()?);
 //! let wire = ControlWire::open(alloc, &mut folder, network, &config)?;
 //! ```
 //!
