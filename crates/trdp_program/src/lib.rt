@@ -43,12 +43,12 @@
 //!
 //! Of a daemon's reports it is proved what one look writes (`Reports::look` in `reports`): a line
 //! about lost gives or failed takes has their number since the line before that was written whole,
-//! and there is none if nothing is new. The next look is due a second later.
+//! and there is none if nothing is new. A daemon looks at most once a second, and rests at most
+//! until the next look (`attend_until` in `attend`).
 //!
-//! **Tested**: the other words on `errors`, and that a daemon looks at all: a text that is left
-//! out, or another text instead of it, breaks no contract. Also what the system says to a write.
-//! [`Ready`] asks it before each one whether it would wait, and is tested over pipes and devices
-//! that are full or gone.
+//! **Tested**: the other words on `errors`: a text that is left out, or another text instead of it,
+//! breaks no contract. Also what the system says to a write. [`Ready`] asks it before each one
+//! whether it would wait, and is tested over pipes and devices that are full or gone.
 //!
 //! **Trusted**, and tested over daemons: [`serve_with`] and [`report_daemon`] open their wire over
 //! the system's sockets with the folder of their options, serve the node over that wire, and write
