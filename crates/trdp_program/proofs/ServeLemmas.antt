@@ -1,7 +1,8 @@
 -- The totals of a service's turns.
--- For `serve_turns`, `serve_program` and `serve_with`.
+-- For `serve_turns`, `serve_service`, `serve_program` and `serve_with`.
 -- By cases: a fault before the first turn, or the totals of that many turns.
-use Rattle.std.proofs.Common.{◌≡◌, ℕ, ◌+◌, List, ◌++◌, Option, None, Some, Ok, refl, ◌∙◌, ap}
+use Rattle.std.proofs.Common.{◌≡◌, ℕ, ◌+◌, List, ◌++◌, Option, None, Some, Result, Ok, Err}
+use Rattle.std.proofs.Common.{◌∙◌, ap}
 use Rattle.std.proofs.Common.{subst, arith, inl, inr}
 use Rattle.std.proofs.KnownBytes.{Keeps-refl, Keeps-trans}
 use Rattle.std.specs.Io.KnownBytes.{Appends, Keeps}
@@ -13,9 +14,9 @@ use Rattle.trdp_wire.specs.declared.bind_fault.BindFault.{BindFault}
 use Rattle.trdp_wire.specs.declared.bind_fault.BindFault.TheVariants as bind
 use Rattle.trdp_program.specs.declared.faults.ServeFault.{ServeFault}
 use Rattle.trdp_program.specs.declared.faults.ServeFault.TheVariants.{Bind, Write, OutOfMemory}
-use Rattle.trdp_program.specs.Faults.{TellsFault, serve_fault, text_of_serve_fault}
-use Rattle.trdp_program.specs.Serving.{CountsTurns, CountsTurnsOver, WritesNoTotals}
-use Rattle.trdp_program.specs.Serving.{ServesNode, ServesProgram}
+use Rattle.trdp_program.specs.Faults.{EndsService, serve_fault}
+use Rattle.trdp_program.specs.Serving.{CountsTurns, CountsTurnsOver, EndsTurns, WritesNoTotals}
+use Rattle.trdp_program.specs.Serving.{ServesProgram}
 
 -- totals of turns over a wire and a clock are those of that many turns
 counts_turns : {W C : Type 0} {takings_in : W → Option (List Taking)}
@@ -69,64 +70,58 @@ behind_kept (Some x) None c bytes kept grown = absurd kept
 behind_kept (Some x) (Some y) None bytes kept grown = absurd grown
 behind_kept (Some x) (Some y) (Some z) bytes kept grown = grown ∙ ap (λ l. l ++ bytes) kept
 
+-- what a service has written, if less is asked of the totals
+ends_less : (P Q : Totals → Type 0) (end : Result (Unit {0}) ServeFault) (old new : Option (List ℕ))
+    → ((totals : Totals) → P totals → Q totals) → EndsTurns P end old new
+    → EndsTurns Q end old new
+ends_less P Q (Ok done) old new less p = (p.0, less p.0 p.1, p.2)
+ends_less P Q (Err fault) old new less p = unwritten_less P Q fault old new less p
+
+-- the same of a daemon's turns
+pub ends_over : (W C : Type 0) (takings_in : W → Option (List Taking))
+    (gives_in : W → Option (List Give)) (readings_in : C → Option (List ℕ)) (config : ConfigModel)
+    (lease : Option ℕ) (wire : W) (clock : C) (n : ℕ) (end : Result (Unit {0}) ServeFault)
+    (old new : Option (List ℕ))
+    → EndsTurns (CountsTurnsOver takings_in gives_in readings_in config lease wire clock n) end old
+    new
+    → EndsTurns (CountsTurns config lease n) end old new
+ends_over W C takings_in gives_in readings_in config lease wire clock n end old new p =
+    ends_less (CountsTurnsOver takings_in gives_in readings_in config lease wire clock n)
+    (CountsTurns config lease n) end old new (λ totals q. counts_turns totals q) p
+
 -- a node of a configuration that was read was served, with this lease
-pub serves_config : {W C : Type 0} {takings_in : W → Option (List Taking)}
-    {gives_in : W → Option (List Give)} {readings_in : C → Option (List ℕ)} {bytes : List ℕ}
-    {config : ConfigModel} {own lease : Option ℕ} {wire : W} {clock : C} {n status : ℕ}
-    (old new errors before behind : Option (List ℕ))
+pub serves_config : {bytes : List ℕ} {config : ConfigModel} {own lease : Option ℕ} {n status : ℕ}
+    (end : Result (Unit {0}) ServeFault) (old new errors before behind : Option (List ℕ))
     → ReadsToml config_of bytes (Ok config) → own ≡ lease → Keeps errors before
-    → ServesNode (CountsTurnsOver takings_in gives_in readings_in config own wire clock n) old new
-    before behind status
+    → EndsTurns (CountsTurns config own n) end old new → EndsService end before behind status
     → ServesProgram bytes lease n old new errors behind status
-serves_config {config = config} {own} {lease} {n = n} old new errors before behind reads same kept
-    (inl p) = inr (record {
+serves_config {config = config} {own} {lease} {n} (Ok done) old new errors before behind reads same
+    kept ends tells = inr (record {
       config = config;
       is = reads;
       serves = inl (record {
-        totals = p.totals;
-        counted = subst (λ (l : Option ℕ). CountsTurns config l n p.totals) same
-            (counts_turns p.totals p.counted);
-        status_is = p.status_is;
-        written = p.written;
-        faultless = Keeps-trans errors before behind kept p.faultless;
+        totals = ends.0;
+        counted = subst (λ (l : Option ℕ). CountsTurns config l n ends.0) same ends.1;
+        status_is = tells.0;
+        written = ends.2;
+        faultless = Keeps-trans errors before behind kept tells.1;
       });
     })
-serves_config {takings_in = takings_in} {gives_in} {readings_in} {config = config} {own} {lease}
-    {wire} {clock} {n} old new errors before behind reads same kept (inr p) = inr (record {
+serves_config {config = config} {own} {lease} {n} (Err fault) old new errors before behind reads
+    same kept ends tells = inr (record {
       config = config;
       is = reads;
       serves = inr (record {
-        fault = p.fault;
-        status_is = p.status_is;
-        written = unwritten_less
-            (CountsTurnsOver takings_in gives_in readings_in config own wire clock n)
-            (CountsTurns config lease n) p.fault old new
-            (λ totals q. subst (λ (l : Option ℕ). CountsTurns config l n totals) same
-            (counts_turns totals q)) p.written;
-        told = (p.told.0, behind_kept errors before behind _ kept p.told.1);
+        fault = fault;
+        status_is = tells.0;
+        written = subst (λ (l : Option ℕ). WritesNoTotals fault (CountsTurns config l n) old new)
+            same ends;
+        told = (tells.1.0, behind_kept errors before behind _ kept tells.1.1);
       });
     })
 
 -- nothing is written if a port or a path is refused
-early_fault : (counts : Totals → Type 0) (fault : BindFault) (told : Option (List ℕ))
+pub early_fault : (counts : Totals → Type 0) (fault : BindFault) (told : Option (List ℕ))
     → WritesNoTotals (serve_fault fault) counts told told
 early_fault counts bind.Bind told = Keeps-refl told
 early_fault counts bind.OutOfMemory told = Keeps-refl told
-
--- a service that ends before the first turn, since a port or a path is refused
-pub serves_nothing : {bytes : List ℕ} {config : ConfigModel} {lease : Option ℕ} {n status : ℕ}
-    (fault : BindFault) (told errors before behind : Option (List ℕ))
-    → ReadsToml config_of bytes (Ok config) → Keeps errors before
-    → (status ≡ 4) × TellsFault (text_of_serve_fault (serve_fault fault)) before behind
-    → ServesProgram bytes lease n told told errors behind status
-serves_nothing {config = config} {lease} {n} fault told errors before behind reads kept ends =
-    inr (record {
-      config = config;
-      is = reads;
-      serves = inr (record {
-        fault = serve_fault fault;
-        status_is = ends.0;
-        written = early_fault (CountsTurns config lease n) fault told;
-        told = (ends.1.0, behind_kept errors before behind _ kept ends.1.1);
-      });
-    })

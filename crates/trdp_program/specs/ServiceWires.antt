@@ -11,6 +11,9 @@ use Rattle.trdp_controls.specs.declared.listen_fault.ListenFault.{ListenFault}
 use Rattle.trdp_controls.specs.declared.listen_fault.ListenFault.TheVariants as path
 use Rattle.trdp_controls.specs.Folders.{Listening, ListensInTurn, control_file, control_files}
 use Rattle.trdp_controls.specs.Folders.{files_of, path_unless_0}
+use Rattle.trdp_program.specs.Faults.{serve_fault}
+use Rattle.trdp_program.specs.declared.faults.ServeFault.{ServeFault}
+use Rattle.trdp_program.specs.declared.faults.ServeFault.TheVariants as serve
 use Rattle.trdp_program.specs.declared.wires.ServiceWire.{ServiceWire}
 use Rattle.trdp_program.specs.declared.wires.ServiceWire.TheVariants.{Udp, Controls}
 
@@ -77,3 +80,17 @@ abbrev pub IsRefusedBeside : {N S F : Type 0} → (refuses : N → BindFault →
 IsRefusedBeside refuses listenings_of config (Err back) folder fault = fault ≡ back.0
 IsRefusedBeside refuses listenings_of config (Ok network) folder fault =
     IsRefusedPaths refuses listenings_of config network folder fault
+
+-- a service that ends so doesn't end with a `bind fault`
+abbrev pub EndsBound : Result (Unit {0}) ServeFault → Type 0
+EndsBound (Ok done) = Unit {0}
+EndsBound (Err serve.Bind) = ⊥
+EndsBound (Err serve.Write) = Unit {0}
+EndsBound (Err serve.OutOfMemory) = Unit {0}
+
+-- how a service ends: if it has no wire, with the fault that says why, and else with no `bind
+-- fault`
+abbrev pub EndsByWire : {N C : Type 0} → Result (ServiceWire N C) BindFault
+    → Result (Unit {0}) ServeFault → Type 0
+EndsByWire (Ok wire) end = EndsBound end
+EndsByWire (Err fault) end = end ≡ Err (serve_fault fault)

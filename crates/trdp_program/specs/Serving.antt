@@ -1,5 +1,6 @@
 -- What the program does when it serves a node for a number of turns.
-use Rattle.std.specs.Prelude.{◌≡◌, ◌⊎◌, ℕ, ◌*◌, List, ◌++◌, codes, length, map, Option, Ok}
+use Rattle.std.specs.Prelude.{◌≡◌, ◌⊎◌, ℕ, ◌*◌, List, ◌++◌, codes, length, map, Option}
+use Rattle.std.specs.Prelude.{Result, Ok, Err}
 use Rattle.std.specs.Option.{option_map}
 use Rattle.std.specs.List.{flat_map}
 use Rattle.std.specs.Io.KnownBytes.{Appends, Keeps}
@@ -76,6 +77,13 @@ WritesNoTotals Bind counts old new = Keeps old new
 WritesNoTotals OutOfMemory counts old new = Keeps old new
 WritesNoTotals Write counts old new = (totals : Totals) × counts totals
     × PartlyWrites old new (text_of_totals totals ++ codes "\n")
+
+-- what a service that ends so has written, by the totals of which this holds
+abbrev pub EndsTurns : (Totals → Type 0) → Result (Unit {0}) ServeFault → Option (List ℕ)
+    → Option (List ℕ) → Type 0
+EndsTurns counts (Ok done) old new =
+    (totals : Totals) × counts totals × WritesTotals totals old new
+EndsTurns counts (Err fault) old new = WritesNoTotals fault counts old new
 
 -- the line of totals wasn't written, or only a front of it: the status is 4, and the error stream
 -- gets the fault

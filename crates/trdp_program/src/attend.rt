@@ -7,11 +7,13 @@ ghost use Rattle.trdp_program.specs.Attending.{FailsOver, ServesUntilDue, totals
 ghost use Rattle.trdp_program.specs.Attending.{WritesAllLines, WritesLinesOver, WritesUpTo};
 ghost use Rattle.trdp_program.specs.Faults.{AppendsText};
 ghost use Rattle.trdp_program.specs.Reporting.{AttendsToLooks};
+ghost use Rattle.trdp_program.specs.ServiceWires.{EndsByWire};
 ghost use Rattle.trdp_program.specs.Serving.{lease_of};
 
 use crate::faults::ServeFault;
 use crate::options::ServiceOptions;
 use crate::reports::Reports;
+use crate::start::ServiceStart;
 use crate::stream::Stream;
 use crate::totals_log::TotalsLog;
 use crate::wires::{ServiceWire, folder_at, ports_beside, wire_over};
@@ -22,6 +24,7 @@ use std::net::Net;
 use std::time::Clock;
 use trdp_daemon::Daemon;
 use trdp_dataset::NodeConfig;
+use trdp_lines::Connections;
 use trdp_udp::{RestingWire, RunClock, SystemSockets};
 use trdp_wire::WatchedWire;
 
@@ -50,18 +53,58 @@ pub(crate) fn attend<H: Files + Net + Clock + AllocGlobal, W: Stream, E: Write>(
     let sockets = SystemSockets::new(rt);
     let ports = ports_beside(&folder);
     let network = RestingWire::open(alloc, sockets, RunClock::new(rt), &config, ports);
-    let wire = wire_over(alloc, network, folder, &config)?;
+    let wire = wire_over(alloc, network, folder, &config);
     let lease = options.lease_time();
     let clock = RunClock::new(rt);
+    let start = ServiceStart {
+        wire,
+        config,
+        lease,
+        clock,
+    };
+    attend_service(alloc, start, step_of(seconds), writer, errors)
+}
+
+/// Attends to the node of a service, if it has a wire, until 2^64 - 1 lines of totals were offered.
+///
+/// # Errors
+/// If the service has no wire, the fault that says why, and else only `OutOfMemory`.
+fn attend_service<
+    N: WatchedWire + Drop,
+    L: Connections + Drop,
+    K: trdp_wire::Clock + Drop,
+    W: Stream,
+    E: Write,
+>(
+    alloc: Global,
+    start: ServiceStart<N, L, K>,
+    step: u64,
+    writer: &mut W,
+    errors: &mut E,
+) -> Result<(), ServeFault>
+    ensures ok { OnOk result (WritesAllLines start.config start.lease step
+        (W.attempts writer.old) (W.attempts writer.new)) }
+    ensures err { IfErr result (λ fault. WritesUpTo fault start.config start.lease step
+        (W.attempts writer.old) (W.attempts writer.new)) }
+    ensures bound { EndsByWire start.wire result }
+    ensures losses { AppendsText (E.contents errors.old) (E.contents errors.new) }
+{
+    let ServiceStart {
+        wire,
+        config,
+        lease,
+        clock,
+    } = start;
     match wire {
-        ServiceWire::Udp(wire) => {
+        Ok(ServiceWire::Udp(wire)) => {
             let daemon = Daemon::with_lease(alloc, config, lease, wire, clock);
-            attend_all_lines(alloc, daemon, step_of(seconds), writer, errors)
+            attend_all_lines(alloc, daemon, step, writer, errors)
         }
-        ServiceWire::Controls(wire) => {
+        Ok(ServiceWire::Controls(wire)) => {
             let daemon = Daemon::with_lease(alloc, config, lease, wire, clock);
-            attend_all_lines(alloc, daemon, step_of(seconds), writer, errors)
+            attend_all_lines(alloc, daemon, step, writer, errors)
         }
+        Err(fault) => Err(ServeFault::from(fault)),
     }
 }
 
@@ -84,6 +127,7 @@ fn attend_all_lines<L: WatchedWire + Drop, K: trdp_wire::Clock + Drop, W: Stream
         → IfOk daemon (HasServed L.takings L.gives K.readings config lease wire clock 0)
         → IfErr result (λ fault. WritesUpTo fault config lease step
         (W.attempts writer.old) (W.attempts writer.new)) }
+    ensures memory { IfErr result (λ fault. fault ≡ ServeFault.OutOfMemory) }
     ensures losses { AppendsText (E.contents errors.old) (E.contents errors.new) }
 {
     match daemon {
@@ -115,6 +159,7 @@ pub fn attend_lines<L: WatchedWire, C: trdp_wire::Clock, W: Stream, E: Write>(
         → HasServed L.takings L.gives C.readings config lease wire clock 0 daemon.old
         → IfErr result (FailsOver L.takings L.gives C.readings config lease wire clock step
         (W.attempts writer.old) (W.attempts writer.new) daemon.new) }
+    ensures memory { IfErr result (λ fault. fault ≡ ServeFault.OutOfMemory) }
     ensures losses { AppendsText (E.contents errors.old) (E.contents errors.new) }
 {
     let mut log = TotalsLog::new(step);

@@ -39,7 +39,9 @@
 //! the configuration names have sockets. Beside a folder only those of the network have, and lines
 //! come in at the files of that folder. There is no wire only if the network's was refused, or if
 //! the folder refused a file. `UdpWire::open` and `RestingWire::open` of `trdp_udp` are refused
-//! only if the sockets refuse a call. A `bind fault` is such a refusal (`ServeFault::from`).
+//! only if the sockets refuse a call. A `bind fault` is such a refusal (`ServeFault::from`), and a
+//! service that has a wire never ends so (`attend_service` in `attend`, `serve_service` in
+//! `serve`).
 //!
 //! Of a daemon's reports it is proved what one look writes (`Reports::look` in `reports`): a line
 //! about lost gives or failed takes has their number since the line before that was written whole,
@@ -65,6 +67,7 @@ mod program;
 mod report_lines;
 mod reports;
 mod serve;
+mod start;
 mod stream;
 mod told;
 mod totals_log;

@@ -5,13 +5,17 @@ ghost use Rattle.std.specs.Io.KnownBytes.{Keeps};
 ghost use Rattle.trdp_dataset.specs.Configs.{ConfigModel};
 ghost use Rattle.trdp_daemon.specs.Daemons.{HasServed};
 ghost use Rattle.trdp_program.specs.Programs.{IsConfig};
-ghost use Rattle.trdp_program.specs.Serving.{CountsTurnsOver, ServesNode, ServesProgram, lease_of};
+ghost use Rattle.trdp_program.specs.ServiceWires.{EndsBound, EndsByWire};
+ghost use Rattle.trdp_program.specs.Serving.{CountsTurns, CountsTurnsOver, EndsTurns};
+ghost use Rattle.trdp_program.specs.Serving.{ServesProgram, lease_of};
 
 use crate::faults::ServeFault;
 use crate::options::ServiceOptions;
 use crate::program::{CONFIG_STATUS, read_config};
+use crate::start::ServiceStart;
 use crate::told::{end_status, tell_line};
 use crate::wires::{ServiceWire, folder_at, ports_beside, wire_over};
+use std::alloc::Global;
 use std::fmt;
 use std::fs::Files;
 use std::io::Write;
@@ -19,8 +23,9 @@ use std::net::Net;
 use std::time::Clock;
 use trdp_daemon::{Daemon, Totals};
 use trdp_dataset::NodeConfig;
+use trdp_lines::Connections;
 use trdp_udp::{RunClock, SystemSockets, UdpWire};
-use trdp_wire::Wire;
+use trdp_wire::{WatchedWire, Wire};
 
 /// Serves a node of that configuration (TOML) over the system's sockets: binds its UDP ports, takes
 /// `turns` turns without sleeping, writes the line of their totals to the writer, and returns the
@@ -50,7 +55,7 @@ pub fn serve_program<H: Net + Clock + AllocGlobal, W: Write, E: Write>(
     match UdpWire::bind(rt, &config) {
         Ok(wire) => {
             let daemon = Daemon::new(rt.alloc(), config, wire, RunClock::new(rt));
-            serve_turns(daemon, turns, writer, errors)
+            end_status(serve_turns(daemon, turns, writer), errors)
         }
         Err(fault) => end_status(Err(ServeFault::from(fault)), errors),
     }
@@ -83,44 +88,74 @@ pub fn serve_with<H: Files + Net + Clock + AllocGlobal, W: Write, E: Write>(
     let wire = wire_over(alloc, network, folder, &config);
     let lease = options.lease_time();
     let clock = RunClock::new(rt);
+    let start = ServiceStart {
+        wire,
+        config,
+        lease,
+        clock,
+    };
+    end_status(serve_service(alloc, start, turns, writer), errors)
+}
+
+/// Takes `turns` turns at the node of a service, if it has a wire, and writes the line of their
+/// totals.
+///
+/// # Errors
+/// If the service has no wire, the fault that says why, and else only `OutOfMemory` or `Write`.
+fn serve_service<
+    N: WatchedWire + Drop,
+    L: Connections + Drop,
+    K: trdp_wire::Clock + Drop,
+    W: Write,
+>(alloc: Global, start: ServiceStart<N, L, K>, turns: u32, writer: &mut W) -> Result<(), ServeFault>
+    ensures ends { EndsTurns (CountsTurns start.config start.lease turns) result
+        (W.contents writer.old) (W.contents writer.new) }
+    ensures bound { EndsByWire start.wire result }
+{
+    let ServiceStart {
+        wire,
+        config,
+        lease,
+        clock,
+    } = start;
     match wire {
         Ok(ServiceWire::Udp(wire)) => {
             let daemon = Daemon::with_lease(alloc, config, lease, wire, clock);
-            serve_turns(daemon, turns, writer, errors)
+            serve_turns(daemon, turns, writer)
         }
         Ok(ServiceWire::Controls(wire)) => {
             let daemon = Daemon::with_lease(alloc, config, lease, wire, clock);
-            serve_turns(daemon, turns, writer, errors)
+            serve_turns(daemon, turns, writer)
         }
-        Err(fault) => end_status(Err(ServeFault::from(fault)), errors),
+        Err(fault) => Err(ServeFault::from(fault)),
     }
 }
 
-/// Takes `turns` turns at a daemon, if it was opened, writes the line of their totals, and returns
-/// the exit status. If the wire and the clock report, these are the totals of the turns that they
-/// report. The system's sockets and clock report nothing, so that of them only the number of turns
-/// is left.
-fn serve_turns<L: Wire + Drop, K: trdp_wire::Clock + Drop, W: Write, E: Write>(
+/// Takes `turns` turns at a daemon, if it was opened, and writes the line of their totals. If the
+/// wire and the clock report, these are the totals of the turns that they report. The system's
+/// sockets and clock report nothing, so that of them only the number of turns is left.
+///
+/// # Errors
+/// `OutOfMemory` if the daemon wasn't opened, and `Write` if the line isn't written whole.
+fn serve_turns<L: Wire + Drop, K: trdp_wire::Clock + Drop, W: Write>(
     daemon: Result<Daemon<L, K>, (NodeConfig, L, K)>,
     turns: u32,
     writer: &mut W,
-    errors: &mut E,
-) -> u8
-    ensures status { (result ≡ 0) ⊎ (result ≡ 4) }
-    ensures serves { (config : ConfigModel) (lease : Option ℕ) (wire : L) (clock : K)
+) -> Result<(), ServeFault>
+    ensures ends { (config : ConfigModel) (lease : Option ℕ) (wire : L) (clock : K)
         → IfOk daemon (HasServed L.takings L.gives K.readings config lease wire clock 0)
-        → ServesNode (CountsTurnsOver L.takings L.gives K.readings config lease wire clock turns)
-        (W.contents writer.old) (W.contents writer.new)
-        (E.contents errors.old) (E.contents errors.new) result }
-    ensures faultless { result ≡ 0 → Keeps (E.contents errors.old) (E.contents errors.new) }
+        → EndsTurns (CountsTurnsOver L.takings L.gives K.readings config lease wire clock turns)
+        result (W.contents writer.old) (W.contents writer.new) }
+    ensures bound { EndsBound result }
 {
     let Ok(mut daemon) = daemon else {
-        return end_status(Err(ServeFault::OutOfMemory), errors);
+        return Err(ServeFault::OutOfMemory);
     };
     if tell_line(TotalsText(daemon.run(turns)), writer) {
-        return 0;
+        Ok(())
+    } else {
+        Err(ServeFault::Write)
     }
-    end_status(Err(ServeFault::Write), errors)
 }
 
 /// The totals of a service as the program prints them (profile): `taken T offered O lost L unread

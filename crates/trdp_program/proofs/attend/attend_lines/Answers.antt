@@ -1,6 +1,7 @@
 use Rattle.std.proofs.Common.{◌≡◌, ◌+◌, ◌-◌, ◌^◌, ◌++◌, ◌∙◌, ap, ℕ, min, subst, arith}
 use Rattle.trdp_program.specs.Attending.{FailsOver, ServesUntilDue, WritesLinesOver, text_of_line}
 use Rattle.trdp_program.specs.Streams.{cut_line_end}
+use Rattle.trdp_program.specs.declared.faults.ServeFault.TheVariants.{OutOfMemory}
 use Rattle.trdp_program.proofs.AttendLemmas.{lines_none, lines_more, lines_fail, when_err}
 use Rattle.trdp_program.proofs.LookLemmas.{text_none, text_both}
 use Rattle.trdp_program.proofs.attend.attend_lines.Goals as goal
@@ -55,6 +56,11 @@ returns-in_err-write-clause-err g c = λ config lease wire clock served.
     g.C.Clock.readings config lease wire clock c.args.step (g.W.Stream.attempts c.args.writer.now)
     (g.W.Stream.attempts c.write.new.writer) c.attend_until-reading.new.daemon)
     c.from_residual.ensures.1 (lines_fail before come fails.0 fails.1)
+
+pub returns-in_err-write-clause-memory : goal.returns-in_err-write-clause-memory
+returns-in_err-write-clause-memory g c =
+    when_err c.from_residual.result c.in_err-write.field-0.0 (λ fault. fault ≡ OutOfMemory)
+    c.from_residual.ensures.1 c.in_err-write.ensures.err.0
 
 pub returns-in_err-write-clause-losses : goal.returns-in_err-write-clause-losses
 returns-in_err-write-clause-losses g c =
