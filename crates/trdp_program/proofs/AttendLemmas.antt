@@ -13,7 +13,7 @@ use Rattle.trdp_daemon.specs.Daemons.{DaemonState, HasServed}
 use Rattle.trdp_daemon.specs.Turns.{Turn, offers_of}
 use Rattle.trdp_program.specs.declared.faults.ServeFault.{ServeFault}
 use Rattle.trdp_program.specs.declared.faults.ServeFault.TheVariants.{Bind, Write, OutOfMemory}
-use Rattle.trdp_program.specs.ServiceWires.{EndsBound}
+use Rattle.trdp_program.specs.ServiceWires.{HasNoBindFault}
 use Rattle.trdp_program.specs.Serving.{AreTotals}
 use Rattle.trdp_program.specs.Streams.{Attempt, attempt, written_by, is_cut_behind, cut_line_end}
 use Rattle.trdp_program.specs.Attending.{TotalsLine, turns_so_far, line_due, bytes_of_line}
@@ -280,12 +280,12 @@ when_err (Ok x) fault P same p = absurd same
 when_err (Err f) fault P same p = subst P (sym same) p
 
 -- what ends only for want of memory ends with no `bind fault`
-pub ends_bound : (end : Result (Unit {0}) ServeFault) → IfErr end (λ fault. fault ≡ OutOfMemory)
-    → EndsBound end
-ends_bound (Ok done) is = tt
-ends_bound (Err Bind) is = absurd (cc)
-ends_bound (Err Write) is = tt
-ends_bound (Err OutOfMemory) is = tt
+pub no_bind_fault : (end : Result (Unit {0}) ServeFault) → IfErr end (λ fault. fault ≡ OutOfMemory)
+    → HasNoBindFault end
+no_bind_fault (Ok done) is = tt
+no_bind_fault (Err Bind) is = absurd (cc)
+no_bind_fault (Err Write) is = tt
+no_bind_fault (Err OutOfMemory) is = tt
 
 -- what follows of a good result follows of what made it good
 pub on_ok : {X : Type 0} (result : Result X ServeFault) (P Q : Type 0) → (P → Q)

@@ -81,16 +81,16 @@ IsRefusedBeside refuses listenings_of config (Err back) folder fault = fault ≡
 IsRefusedBeside refuses listenings_of config (Ok network) folder fault =
     IsRefusedPaths refuses listenings_of config network folder fault
 
--- a service that ends so doesn't end with a `bind fault`
-abbrev pub EndsBound : Result (Unit {0}) ServeFault → Type 0
-EndsBound (Ok done) = Unit {0}
-EndsBound (Err serve.Bind) = ⊥
-EndsBound (Err serve.Write) = Unit {0}
-EndsBound (Err serve.OutOfMemory) = Unit {0}
+-- a service ended, and not with a `bind fault`
+abbrev pub HasNoBindFault : Result (Unit {0}) ServeFault → Type 0
+HasNoBindFault (Ok done) = Unit {0}
+HasNoBindFault (Err serve.Bind) = ⊥
+HasNoBindFault (Err serve.Write) = Unit {0}
+HasNoBindFault (Err serve.OutOfMemory) = Unit {0}
 
 -- how a service ends: if it has no wire, with the fault that says why, and else with no `bind
 -- fault`
 abbrev pub EndsByWire : {N C : Type 0} → Result (ServiceWire N C) BindFault
     → Result (Unit {0}) ServeFault → Type 0
-EndsByWire (Ok wire) end = EndsBound end
+EndsByWire (Ok wire) end = HasNoBindFault end
 EndsByWire (Err fault) end = end ≡ Err (serve_fault fault)

@@ -54,13 +54,11 @@ pub(crate) fn attend<H: Files + Net + Clock + AllocGlobal, W: Stream, E: Write>(
     let ports = ports_beside(&folder);
     let network = RestingWire::open(alloc, sockets, RunClock::new(rt), &config, ports);
     let wire = wire_over(alloc, network, folder, &config);
-    let lease = options.lease_time();
-    let clock = RunClock::new(rt);
     let start = ServiceStart {
         wire,
         config,
-        lease,
-        clock,
+        lease: options.lease_time(),
+        clock: RunClock::new(rt),
     };
     attend_service(alloc, start, step_of(seconds), writer, errors)
 }
@@ -86,7 +84,7 @@ fn attend_service<
         (W.attempts writer.old) (W.attempts writer.new)) }
     ensures err { IfErr result (λ fault. WritesUpTo fault start.config start.lease step
         (W.attempts writer.old) (W.attempts writer.new)) }
-    ensures bound { EndsByWire start.wire result }
+    ensures fault { EndsByWire start.wire result }
     ensures losses { AppendsText (E.contents errors.old) (E.contents errors.new) }
 {
     let ServiceStart {

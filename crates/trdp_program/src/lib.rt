@@ -37,11 +37,11 @@
 //!
 //! Of the wire of a service it is proved (`wire_over` in `wires`): without a folder all ports that
 //! the configuration names have sockets. Beside a folder only those of the network have, and lines
-//! come in at the files of that folder. There is no wire only if the network's was refused, or if
-//! the folder refused a file. `UdpWire::open` and `RestingWire::open` of `trdp_udp` are refused
-//! only if the sockets refuse a call. A `bind fault` is such a refusal (`ServeFault::from`), and a
-//! service that has a wire never ends so (`attend_service` in `attend`, `serve_service` in
-//! `serve`).
+//! come in at the files of that folder. There is no wire only if the network refused its wire or a
+//! registry, if the folder refused a file, or if an allocation failed. `UdpWire::open` and
+//! `RestingWire::open` of `trdp_udp` are refused only if the sockets refuse a call. A `bind fault`
+//! is such a refusal (`ServeFault::from`), and a service that has a wire never ends so
+//! (`attend_service` in `attend`, `serve_service` in `serve`).
 //!
 //! Of a daemon's reports it is proved what one look writes (`Reports::look` in `reports`): a line
 //! about lost gives or failed takes has their number since the line before that was written whole,

@@ -5,7 +5,7 @@ ghost use Rattle.std.specs.Io.KnownBytes.{Keeps};
 ghost use Rattle.trdp_dataset.specs.Configs.{ConfigModel};
 ghost use Rattle.trdp_daemon.specs.Daemons.{HasServed};
 ghost use Rattle.trdp_program.specs.Programs.{IsConfig};
-ghost use Rattle.trdp_program.specs.ServiceWires.{EndsBound, EndsByWire};
+ghost use Rattle.trdp_program.specs.ServiceWires.{EndsByWire, HasNoBindFault};
 ghost use Rattle.trdp_program.specs.Serving.{CountsTurns, CountsTurnsOver, EndsTurns};
 ghost use Rattle.trdp_program.specs.Serving.{ServesProgram, lease_of};
 
@@ -86,13 +86,11 @@ pub fn serve_with<H: Files + Net + Clock + AllocGlobal, W: Write, E: Write>(
     let folder = folder_at(rt, options.folder);
     let network = UdpWire::open(SystemSockets::new(rt), &config, ports_beside(&folder));
     let wire = wire_over(alloc, network, folder, &config);
-    let lease = options.lease_time();
-    let clock = RunClock::new(rt);
     let start = ServiceStart {
         wire,
         config,
-        lease,
-        clock,
+        lease: options.lease_time(),
+        clock: RunClock::new(rt),
     };
     end_status(serve_service(alloc, start, turns, writer), errors)
 }
@@ -110,7 +108,7 @@ fn serve_service<
 >(alloc: Global, start: ServiceStart<N, L, K>, turns: u32, writer: &mut W) -> Result<(), ServeFault>
     ensures ends { EndsTurns (CountsTurns start.config start.lease turns) result
         (W.contents writer.old) (W.contents writer.new) }
-    ensures bound { EndsByWire start.wire result }
+    ensures fault { EndsByWire start.wire result }
 {
     let ServiceStart {
         wire,
@@ -146,7 +144,7 @@ fn serve_turns<L: Wire + Drop, K: trdp_wire::Clock + Drop, W: Write>(
         → IfOk daemon (HasServed L.takings L.gives K.readings config lease wire clock 0)
         → EndsTurns (CountsTurnsOver L.takings L.gives K.readings config lease wire clock turns)
         result (W.contents writer.old) (W.contents writer.new) }
-    ensures bound { EndsBound result }
+    ensures fault { HasNoBindFault result }
 {
     let Ok(mut daemon) = daemon else {
         return Err(ServeFault::OutOfMemory);

@@ -8,7 +8,7 @@ returns-clause-serves g c =
     serves_config c.serve_service.result (g.W.Write.contents c.args.writer.now)
     (g.W.Write.contents c.serve_service.new.writer) (g.E.Write.contents c.args.errors.now)
     (g.E.Write.contents c.read_config.new.errors) (g.E.Write.contents c.end_status.new.errors)
-    c.in-Ok.ensures.taken c.lease_time-lease.ensures c.in-Ok.ensures.faultless
+    c.in-Ok.ensures.taken c.lease_time.ensures c.in-Ok.ensures.faultless
     c.serve_service.ensures.ends c.end_status.ensures.ends
 
 pub returns-clause-faultless : goal.returns-clause-faultless
